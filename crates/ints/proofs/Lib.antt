@@ -1,0 +1,9 @@
+-- The laws of `ints`.
+pub mod Ring
+pub mod Size
+pub mod Sum
+pub mod Floor
+pub mod Signed
+pub mod Every
+pub mod Table
+pub mod Cases

@@ -1,0 +1,2 @@
+-- The definitions of `ints`.
+pub mod Whole
