@@ -1,0 +1,37 @@
+"""The command line of the tests: programs run on bytes, and their lines compared."""
+
+import inspect
+import shlex
+import subprocess
+import sys
+
+SHOWN = 5
+
+
+def printed_by(program, data):
+    """The lines that a program prints for the bytes on its standard input."""
+    run = subprocess.run(shlex.split(program), input=data, stdout=subprocess.PIPE)
+    return run.stdout.decode("ascii", "replace").splitlines()
+
+
+def compared(expected, printed, things):
+    """Shows the first few differences and says how many agree: 0 if all and no more, else 1."""
+    differing = [n for n, (wanted, line) in enumerate(zip(expected, printed)) if wanted != line]
+    for n in differing[:SHOWN]:
+        print("%d\n  expected %s\n  printed  %s" % (n + 1, expected[n], printed[n]))
+    if len(expected) != len(printed):
+        print("%d lines expected, %d printed" % (len(expected), len(printed)))
+    agreed = min(len(expected), len(printed)) - len(differing)
+    print("%d of %d %s agree" % (agreed, len(expected), things))
+    return 0 if agreed == len(expected) == len(printed) else 1
+
+
+def dispatch(usage, *commands):
+    """Runs the command that the command line names; what it answers is the exit status."""
+    named = {command.__name__: command for command in commands}
+    name, *arguments = sys.argv[1:] or [""]
+    try:
+        inspect.signature(named[name]).bind(*arguments)
+    except (KeyError, TypeError):
+        sys.exit(usage)
+    sys.exit(named[name](*arguments))

@@ -1,0 +1,279 @@
+"""PHS files, and the listings that the model gives for them.
+
+make SEED COUNT DIR           writes NNN.phs and its listing NNN.txt
+compare PROGRAM [SEED COUNT]  feeds such files to the program in pieces and compares its listings
+examples DIR                  writes a few short example files and their listings
+"""
+
+import os
+import random
+import shlex
+import struct
+import subprocess
+import tempfile
+
+from commands import SHOWN, dispatch
+from inputs import any_sample, any_wave, opening_pairs, sample_at, steady_wave
+from reference import HEADER_BYTES, LAST_SOC, SERVED, kept_rate, listing, sampling
+
+PIECES = (None, 1, 4095, 65537)
+
+
+# ---------------------------------------------------------------------------
+# The bytes of a file
+
+def header(nominal, rate, soc=1000, mark=b"PHS", version=1):
+    """The 11 bytes of a header."""
+    return struct.pack(">3sHBBI", mark, version, nominal, rate, soc)
+
+
+def body(samples):
+    """6 bytes a sample."""
+    return b"".join(struct.pack(">hhh", *sample) for sample in samples)
+
+
+def any_soc(rng):
+    """A SOC, often at either end."""
+    return rng.choice((0, 1, LAST_SOC - 1, LAST_SOC, rng.randint(0, LAST_SOC)))
+
+
+def any_body(rng, nominal, count):
+    """The bytes of so many samples of a wave or of anything."""
+    if rng.random() < 0.6:
+        return body(any_wave(rng, nominal, count))
+    return body([any_sample(rng) for _ in range(count)])
+
+
+# ---------------------------------------------------------------------------
+# Both sides of each edge, one file each
+
+def wrong_headers():
+    """Headers with one fault, and with two or more of which the first in order is refused."""
+    for mark in (b"phs", b"QHS", b"PIS", b"PHT", b"SHP", b"\0\0\0"):
+        yield header(60, 60, mark=mark)
+    for version in (0, 2, 256, 257, 65535):
+        yield header(60, 60, version=version)
+    for nominal in (0, 49, 51, 59, 61, 255):
+        yield header(nominal, 10)
+    for nominal, rates in SERVED.items():
+        beside = {rate + change for rate in (0,) + rates for change in (-1, 1)} & set(range(256))
+        of_any = {rate for served in SERVED.values() for rate in served}
+        for rate in sorted((beside | of_any | {255}) - set(rates) - {0}):
+            yield header(nominal, rate)
+    yield header(51, 11, mark=b"PHT", version=2)
+    yield header(51, 11, version=2)
+    yield header(51, 11)
+
+
+def cut_headers():
+    """Fewer than 11 bytes, of a sound header and of a wrong one."""
+    for length in range(11):
+        yield header(60, 60)[:length]
+    yield header(51, 11, mark=b"PHT", version=2)[:10]
+
+
+def cut_samples():
+    """Part of a sample, the first of a file and the one with which a report would come."""
+    samples = body([(1, 2, 3)] * 31)
+    for length in (1, 2, 3, 4, 5):
+        yield header(60, 60) + samples[:length]
+        yield header(50, 50) + samples[:30 * 6 + length]
+
+
+def last_seconds():
+    """About the last sample of the last second, whole and in part."""
+    for nominal in SERVED:
+        samples = body([(n, -n, 5) for n in range(sampling(nominal) + 1)])
+        for length in (-12, -6, -5, -1, 0, 1, 6):
+            yield header(nominal, nominal, LAST_SOC) + samples[:sampling(nominal) * 6 + length]
+
+
+def bare_headers():
+    """A header and no sample, at every nominal and rate that it may give."""
+    for nominal, rate in opening_pairs():
+        yield header(nominal, rate)
+
+
+def edges():
+    """Every file of the makers above."""
+    return [data for maker in (wrong_headers, cut_headers, cut_samples, last_seconds, bare_headers)
+            for data in maker()]
+
+
+# ---------------------------------------------------------------------------
+# Random files
+
+def sound(rng):
+    """A sound file of up to 300 samples."""
+    nominal, rate = rng.choice(opening_pairs())
+    return header(nominal, rate, any_soc(rng)) + any_body(rng, nominal, rng.randint(0, 300))
+
+
+def about_the_first_report(rng):
+    """A sound file that ends about the first sample with which a report comes."""
+    nominal, rate = rng.choice(opening_pairs())
+    first = max(30, sampling(nominal) // kept_rate(rate) + 15)
+    return header(nominal, rate, any_soc(rng)) + any_body(rng, nominal, first + rng.randint(-1, 2))
+
+
+def over_a_second(rng):
+    """A sound file that passes the turn of the second."""
+    nominal, rate = rng.choice(opening_pairs())
+    soc = rng.choice((0, 1000, LAST_SOC - 1))
+    return header(nominal, rate, soc) + any_body(rng, nominal, sampling(nominal) + rng.randint(-2, 100))
+
+
+def to_the_last_second(rng):
+    """A file that ends about the last sample of the last second."""
+    nominal, rate = rng.choice(opening_pairs())
+    seconds = rng.choice((1, 1, 2))
+    count = seconds * sampling(nominal) + rng.choice((-2, -1, 0, 1, 30))
+    rest = rng.randbytes(rng.choice((0, 0, 1, 5)))
+    return header(nominal, rate, LAST_SOC + 1 - seconds) + any_body(rng, nominal, count) + rest
+
+
+def cut_in_a_sample(rng):
+    """1 to 5 bytes after the last whole sample."""
+    return sound(rng) + rng.randbytes(rng.randint(1, 5))
+
+
+def with_a_changed_byte(rng):
+    """A sound file with any byte of the header changed."""
+    data = bytearray(sound(rng))
+    data[rng.randrange(HEADER_BYTES)] = rng.randrange(256)
+    return bytes(data)
+
+
+def cut_anywhere(rng):
+    """A sound file cut at any byte."""
+    data = sound(rng)
+    return data[:rng.randint(0, len(data))]
+
+
+def over_many_pieces(rng):
+    """A sound file longer than 65537 bytes."""
+    nominal, rate = rng.choice(opening_pairs())
+    return header(nominal, rate) + any_body(rng, nominal, rng.randint(10930, 11500))
+
+
+KINDS = (sound, about_the_first_report, over_a_second, to_the_last_second, cut_in_a_sample,
+         with_a_changed_byte, cut_anywhere)
+LONG_EVERY = 50
+
+
+def any_file(rng, n):
+    """The random file of a number, the kinds in turn."""
+    kind = over_many_pieces if n % LONG_EVERY == LONG_EVERY - 1 else KINDS[n % len(KINDS)]
+    return kind(rng)
+
+
+def files(seed, count):
+    """So many files: an edge and a random one in turn, then random ones."""
+    rng = random.Random(seed)
+    in_turn = [data for n, edge in enumerate(edges()) for data in (edge, any_file(rng, n))][:count]
+    return in_turn + [any_file(rng, n) for n in range(count - len(in_turn))]
+
+
+# ---------------------------------------------------------------------------
+# Examples
+
+AMPLITUDE = 20000
+
+
+def steady(nominal, rate, seconds):
+    """The nominal frequency throughout."""
+    return off_nominal(nominal, rate, seconds, 0)
+
+
+def off_nominal(nominal, rate, seconds, deviation):
+    """A frequency beside the nominal throughout."""
+    count = int(seconds * sampling(nominal))
+    return header(nominal, rate) + body(steady_wave(nominal, nominal + deviation, AMPLITUDE, count))
+
+
+def ramp(nominal, rate, seconds, slope):
+    """A frequency that leaves the nominal by so many Hz a second."""
+    times = [n / sampling(nominal) for n in range(int(seconds * sampling(nominal)))]
+    samples = [sample_at(nominal * t + slope * t * t / 2, AMPLITUDE) for t in times]
+    return header(nominal, rate) + body(samples)
+
+
+def step(nominal, rate, seconds, factor, turns):
+    """A step of amplitude and angle in the middle."""
+    count = int(seconds * sampling(nominal))
+    before = steady_wave(nominal, nominal, AMPLITUDE, count)[:count // 2]
+    after = steady_wave(nominal, nominal, AMPLITUDE * factor, count, turns)[count // 2:]
+    return header(nominal, rate) + body(before + after)
+
+
+def example_files():
+    """The examples by name."""
+    return {
+        "steady": steady(50, 50, 0.4),
+        "off_nominal": off_nominal(60, 30, 0.5, -0.75),
+        "ramp": ramp(50, 25, 1, 1.0),
+        "step": step(60, 60, 0.5, 1.1, 1 / 36),
+        "cut_short": steady(60, 0, 0.4)[:-2],
+    }
+
+
+# ---------------------------------------------------------------------------
+# Commands
+
+def write(directory, name, data):
+    """Writes a file and its listing."""
+    with open(os.path.join(directory, name + ".phs"), "wb") as file:
+        file.write(data)
+    with open(os.path.join(directory, name + ".txt"), "wb") as file:
+        file.write(listing(data))
+
+
+def make(seed, count, directory):
+    """Writes so many files and their listings."""
+    os.makedirs(directory, exist_ok=True)
+    for n, data in enumerate(files(int(seed), int(count))):
+        write(directory, "%03d" % n, data)
+
+
+def examples(directory):
+    """Writes the example files and their listings."""
+    os.makedirs(directory, exist_ok=True)
+    for name, data in example_files().items():
+        write(directory, name, data)
+
+
+def printed_by(program, data, size):
+    """What the program prints when the bytes come through a pipe in pieces of a size."""
+    with tempfile.TemporaryFile() as output:
+        run = subprocess.Popen(shlex.split(program), stdin=subprocess.PIPE, stdout=output, bufsize=0)
+        try:
+            for at in range(0, len(data), size):
+                run.stdin.write(data[at:at + size])
+        except BrokenPipeError:
+            pass  # a program that has refused need not read on
+        run.stdin.close()
+        run.wait()
+        output.seek(0)
+        return output.read()
+
+
+def compare(program, seed=1, count=200):
+    """Feeds files to the program in pieces; 0 if every listing agrees, else 1."""
+    tried = 0
+    differing = 0
+    for n, data in enumerate(files(int(seed), int(count))):
+        expected = listing(data)
+        for size in PIECES:
+            printed = printed_by(program, data, size or max(1, len(data)))
+            tried += 1
+            if printed != expected:
+                differing += 1
+                if differing <= SHOWN:
+                    print("file %03d in pieces of %s\n  expected %r\n  printed  %r"
+                          % (n, size or "any size", expected[-200:], printed[-200:]))
+    print("%d of %d listings agree" % (tried - differing, tried))
+    return 0 if differing == 0 else 1
+
+
+if __name__ == "__main__":
+    dispatch(__doc__, make, compare, examples)

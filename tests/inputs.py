@@ -1,0 +1,60 @@
+"""Inputs made for the tests: nominals and rates, waves of a sequence, noise and rails."""
+
+import math
+
+from reference import SERVED, sampling
+
+LOW, HIGH = -32768, 32767
+
+
+def served_pairs():
+    """Every served nominal and rate."""
+    return [(nominal, rate) for nominal, rates in SERVED.items() for rate in rates]
+
+
+def opening_pairs():
+    """Every nominal and rate that an opening or a header may give, rate 0 among them."""
+    return [(nominal, rate) for nominal, rates in SERVED.items() for rate in (0,) + rates]
+
+
+def clipped(value):
+    """A number made whole, within the signed 16 bits of a sample."""
+    return max(LOW, min(HIGH, round(value)))
+
+
+def sample_at(turns, amplitude, order=1):
+    """a, b, c at an angle in turns: order 1 is positive sequence, -1 negative, 0 zero."""
+    return tuple(clipped(amplitude * math.cos(2 * math.pi * (turns - order * lag / 3))) for lag in range(3))
+
+
+def steady_wave(nominal, frequency, amplitude, count, turns=0.0, order=1):
+    """Samples of one frequency from an angle in turns on."""
+    return [sample_at(turns + frequency * n / sampling(nominal), amplitude, order) for n in range(count)]
+
+
+def any_wave(rng, nominal, count):
+    """Positive sequence of any frequency from 40 to 70 Hz."""
+    amplitude = rng.choice((2, 500, 20000, HIGH))
+    return steady_wave(nominal, rng.uniform(40, 70), amplitude, count, rng.random())
+
+
+def noise_sample(rng, amplitude):
+    """A sample of noise."""
+    return tuple(rng.randint(-amplitude, amplitude) for _ in range(3))
+
+
+def rail_sample(rng):
+    """A sample with each phase at either rail."""
+    return tuple(rng.choice((LOW, HIGH)) for _ in range(3))
+
+
+def any_sample(rng):
+    """A sample of rails, or of noise of any amplitude."""
+    amplitude = rng.choice((None, 1, 300, 20000, HIGH))
+    return noise_sample(rng, amplitude) if amplitude else rail_sample(rng)
+
+
+def any_run(rng, length):
+    """A run of one phase of noise."""
+    amplitude = rng.choice((1, 500, HIGH))
+    return [rng.randint(-amplitude, amplitude) for _ in range(length)]

@@ -1,0 +1,98 @@
+"""A replay script in the making, and the bytes of slots that scripts set."""
+
+import random
+import struct
+
+from inputs import any_sample
+from reference import BANK_BYTES, PLACES, SLOT_BYTES, Feed, slot_of
+from replay import ARGUMENTS, new_memory, replay
+
+SLOTS = range(16)
+LENGTHS = (0, 1, 255, 256, 4095, 4096, 4097, 8191, 8192, 8193, 65535)
+
+
+def record(letter, *arguments):
+    """A record without samples."""
+    return letter + struct.pack(ARGUMENTS[letter], *arguments)
+
+
+def run_record(nominal, centre, runs):
+    """The record of a whole run."""
+    head = record(b"W", nominal, centre, *[len(run) for run in runs])
+    return head + b"".join(struct.pack(">%dh" % len(run), *run) for run in runs)
+
+
+class Maker:
+    """A script in the making: its records, the memory after them and the lines they print."""
+
+    def __init__(self, seed):
+        self.rng = random.Random(seed)
+        self.memory = new_memory()
+        self.records = []
+        self.lines = []
+
+    def add(self, data):
+        """Adds a record."""
+        self.records.append(data)
+        self.lines += replay(data, self.memory)
+
+    def clear(self, length=BANK_BYTES):
+        """Clearing."""
+        self.add(record(b"C", length))
+
+    def open(self, slot, nominal=60, rate=60, soc=1000, length=BANK_BYTES):
+        """An opening."""
+        self.add(record(b"O", length, slot, nominal, rate, soc))
+
+    def push(self, slot, sample=None, length=BANK_BYTES):
+        """A push, of any sample where none is given."""
+        self.add(record(b"P", length, slot, *(sample or any_sample(self.rng))))
+
+    def close(self, slot, length=BANK_BYTES):
+        """A closing."""
+        self.add(record(b"X", length, slot))
+
+    def set(self, at, value):
+        """A byte set."""
+        self.add(record(b"S", at, value))
+
+    def show(self, *slots):
+        """Slots shown."""
+        for slot in slots:
+            self.add(record(b"D", slot))
+
+    def run(self, nominal, centre, runs):
+        """A whole run."""
+        self.add(run_record(nominal, centre, runs))
+
+    def judge(self, class_=0, test=0, m=3, device=(1, 0, 0, 0), reference=(1, 0, 0, 0)):
+        """A judging; device and reference are re, im, frequency, ROCOF."""
+        self.add(record(b"J", class_, test, m, *device, *reference))
+
+    def lay(self, slot, content):
+        """Sets the bytes of a slot, those that differ."""
+        for at, value in enumerate(content, SLOT_BYTES * slot):
+            if self.memory[at] != value:
+                self.set(at, value)
+
+
+FREE = bytes(SLOT_BYTES)
+
+
+def any_samples(rng):
+    """31 samples, none with a zero byte."""
+    return [tuple(rng.choice((-1, 1)) * (257 * rng.randint(1, 120) + rng.randint(1, 100)) for _ in range(3))
+            for _ in range(PLACES)]
+
+
+def held_slot(samples, nominal=60, rate=60, held=31, soc=1000, index=45, place=7):
+    """The bytes of an open slot; with fewer than 31 held the index and place are the held."""
+    if held < 31:
+        index = place = held
+    filled = tuple(samples[:held]) + ((0, 0, 0),) * (PLACES - held)
+    return slot_of(Feed(nominal, rate, held, soc, index, place, filled))
+
+
+def edited(content, at, *values):
+    """The bytes of a slot with those from at on replaced."""
+    return content[:at] + bytes(values) + content[at + len(values):]

@@ -1,0 +1,535 @@
+"""The class P model of document 01, in the order of its sections, in exact whole numbers."""
+
+import math
+import struct
+from typing import NamedTuple, Optional
+
+# ---------------------------------------------------------------------------
+# Sampling and tags
+
+SERVED = {50: (10, 25, 50), 60: (10, 12, 15, 20, 30, 60)}
+LAST_SOC = 4294967295
+
+
+def sampling(nominal):
+    """15 samples per nominal cycle: 750 or 900 per second."""
+    return {50: 750, 60: 900}[nominal]
+
+
+def kept_rate(rate):
+    """Rate 0 stands for 10, and 10 is what is kept."""
+    return 10 if rate == 0 else rate
+
+
+def frame_spacing(nominal, rate):
+    """D = sampling / rate."""
+    assert sampling(nominal) % rate == 0
+    return sampling(nominal) // rate
+
+
+# ---------------------------------------------------------------------------
+# The filter (Annex C, order N = 28)
+
+OFFSETS = range(-14, 15)
+
+
+def weight(k):
+    """Weight of offset k, from -14 to 14."""
+    return 15 - abs(k)
+
+
+COS = [round(16384 * math.cos(2 * math.pi * n / 15)) for n in range(15)]
+SIN = [round(16384 * math.sin(2 * math.pi * n / 15)) for n in range(15)]
+
+assert sum(weight(k) for k in OFFSETS) == 225
+assert COS[:8] == [16384, 14968, 10963, 5063, -1713, -8192, -13255, -16026]
+assert SIN[:8] == [0, 6664, 12176, 15582, 16294, 14189, 9630, 3406]
+assert all(COS[n] == COS[15 - n] and SIN[n] == -SIN[15 - n] for n in range(8, 15))
+
+
+def cos(n):
+    """The cosine table, its index taken mod 15."""
+    return COS[n % 15]
+
+
+def sin(n):
+    """The sine table, its index taken mod 15."""
+    return SIN[n % 15]
+
+
+def positive_sequence(sample, i):
+    """re and im at centre i, where sample(n) is the a, b, c of index n."""
+    re = 0
+    im = 0
+    for k in OFFSETS:
+        n = i + k
+        a, b, c = sample(n)
+        re += weight(k) * (a * cos(n) + b * cos(n - 5) + c * cos(n - 10))
+        im -= weight(k) * (a * sin(n) + b * sin(n - 5) + c * sin(n - 10))
+    return re, im
+
+
+# ---------------------------------------------------------------------------
+# The angle
+
+TURN = 2**32
+HALF_TURN = 2**31
+QUARTER_TURN = 2**30
+
+ARCTANGENTS = [round(math.atan(2.0**-i) * TURN / (2 * math.pi)) for i in range(24)]
+
+assert ARCTANGENTS == [
+    536870912, 316933406, 167458907, 85004756, 42667331, 21354465, 10679838, 5340245,
+    2670163, 1335087, 667544, 333772, 166886, 83443, 41722, 20861,
+    10430, 5215, 2608, 1304, 652, 326, 163, 81]
+
+
+def no_phase(re, im):
+    """For (re, im) = (0, 0) there is no phase."""
+    return re == 0 and im == 0
+
+
+def first_quadrant(re, im):
+    """Turned into the first quadrant: re, im and the base."""
+    if re > 0 and im >= 0:
+        return re, im, 0
+    if re <= 0 and im > 0:
+        return im, -re, QUARTER_TURN
+    if re < 0 and im <= 0:
+        return -re, -im, HALF_TURN
+    assert re >= 0 and im < 0
+    return -im, re, 3 * QUARTER_TURN
+
+
+def angle(re, im):
+    """The angle in 2^32nds of a turn, modulo 2^32; 0 where there is no phase."""
+    if no_phase(re, im):
+        return 0
+    re, im, turned = first_quadrant(re * 65536, im * 65536)
+    for i in range(24):
+        # // is the floor towards minus infinity
+        x, y = re, im
+        if y > 0:
+            re = x + y // 2**i
+            im = y - x // 2**i
+            turned += ARCTANGENTS[i]
+        elif y < 0:
+            re = x - y // 2**i
+            im = y + x // 2**i
+            turned -= ARCTANGENTS[i]
+    return turned % TURN
+
+
+# ---------------------------------------------------------------------------
+# The report
+
+class Figures(NamedTuple):
+    """The report without a tag."""
+    re: int
+    im: int
+    d1: int
+    d2: int
+    mark: int
+    peak_re: float
+    peak_im: float
+    frequency: float
+    rocof: float
+
+
+class Report(NamedTuple):
+    """The tag, SOC and frame number, and the figures."""
+    soc: int
+    frame: int
+    figures: Figures
+
+
+def signed(difference):
+    """Modulo 2^32, read as a signed 32-bit number."""
+    wrapped = difference % TURN
+    return wrapped - TURN if wrapped >= HALF_TURN else wrapped
+
+
+def differences(p, q, r):
+    """d1 = r - p and d2 = r - 2q + p."""
+    return signed(r - p), signed(r - 2 * q + p)
+
+
+def divided_once(whole, divisor):
+    """A whole number made a float without loss, divided once."""
+    assert int(float(whole)) == whole and int(float(divisor)) == divisor
+    return float(whole) / float(divisor)
+
+
+def peak_counts(part):
+    """re or im in peak counts."""
+    return divided_once(part, 5529600)
+
+
+def frequency_deviation(d1, nominal):
+    """The frequency deviation in Hz: d1 × half the sampling, divided once."""
+    return divided_once(d1 * (sampling(nominal) // 2), 4294967296)
+
+
+def rocof(d2, nominal):
+    """ROCOF in Hz/s: d2 × the square of the sampling, divided once."""
+    return divided_once(d2 * sampling(nominal) ** 2, 4294967296)
+
+
+def bits(number):
+    """The bits of a 64-bit float."""
+    return struct.unpack(">Q", struct.pack(">d", number))[0]
+
+
+def measure(sample, i, nominal):
+    """The figures at centre i, from the centres i-1, i, i+1."""
+    centres = [positive_sequence(sample, j) for j in (i - 1, i, i + 1)]
+    re, im = centres[1]
+    if any(no_phase(*centre) for centre in centres):
+        d1, d2, mark = 0, 0, 1
+    else:
+        d1, d2 = differences(*[angle(*centre) for centre in centres])
+        mark = 0
+    return Figures(re, im, d1, d2, mark, peak_counts(re), peak_counts(im),
+                   frequency_deviation(d1, nominal), rocof(d2, nominal))
+
+
+class Refused(NamedTuple):
+    """A refusal answers its number alone."""
+    number: int
+
+
+def whole_run(a, b, c, centre, nominal):
+    """The whole-run measurement, the first sample being index 0: refused 6, 16, 17."""
+    if nominal not in SERVED:
+        return Refused(6)
+    if not len(a) == len(b) == len(c):
+        return Refused(16)
+    before = centre
+    after = len(a) - 1 - centre
+    if before < 15 or after < 15:
+        return Refused(17)
+    return measure(lambda n: (a[n], b[n], c[n]), centre, nominal)
+
+
+# ---------------------------------------------------------------------------
+# The bank
+
+BANK_BYTES = 4096
+SLOT_BYTES = 256
+PLACES = 31
+FIRST_PLACE = 11
+AFTER_PLACES = 197
+DONE = "done"
+
+
+class Taken(NamedTuple):
+    """A push that is not refused, with the report if one is due."""
+    report: Optional[Report]
+
+
+class Feed(NamedTuple):
+    """A feed taken out of its slot."""
+    nominal: int
+    rate: int
+    held: int
+    soc: int
+    index: int
+    place: int
+    places: tuple
+
+
+def feed_of(slot):
+    """The feed that the 256 bytes of an open slot hold."""
+    _, nominal, rate, held, soc, index, place = struct.unpack(">BBBBIHB", slot[:FIRST_PLACE])
+    places = tuple(struct.iter_unpack(">hhh", slot[FIRST_PLACE:AFTER_PLACES]))
+    return Feed(nominal, rate, held, soc, index, place, places)
+
+
+def slot_of(feed):
+    """The 256 bytes of the open slot that holds the feed."""
+    head = struct.pack(">BBBBIHB", 1, feed.nominal, feed.rate, feed.held,
+                       feed.soc, feed.index, feed.place)
+    places = b"".join(struct.pack(">hhh", *sample) for sample in feed.places)
+    return (head + places).ljust(SLOT_BYTES, b"\0")
+
+
+def damage(slot):
+    """The clauses of damage that the 256 bytes of a slot meet, in the document's words."""
+    state = slot[0]
+    if state > 1:
+        return ["state exceeds 1"]
+    if state == 0:
+        return ["free with a nonzero byte"] if any(slot) else []
+    feed = feed_of(slot)
+    served = feed.nominal in SERVED
+    unfilled = slot[FIRST_PLACE + 6 * feed.held:AFTER_PLACES]
+    clauses = {
+        "unserved nominal or rate":
+            not served or feed.rate not in SERVED[feed.nominal],
+        "index not below the sampling":
+            served and feed.index >= sampling(feed.nominal),
+        "held over 31":
+            feed.held > 31,
+        "place over 30":
+            feed.place > 30,
+        "fewer than 31 held where place or index differs from held":
+            feed.held < 31 and (feed.place != feed.held or feed.index != feed.held),
+        "31 held with SOC 0 and index under 31":
+            feed.held == 31 and feed.soc == 0 and feed.index < 31,
+        "a nonzero byte in an unfilled place":
+            any(unfilled),
+        "a nonzero byte after byte 196":
+            any(slot[AFTER_PLACES:]),
+    }
+    return [clause for clause, met in clauses.items() if met]
+
+
+def slot_bytes(bank, slot):
+    """The 256 bytes of the named slot."""
+    return bytes(bank[SLOT_BYTES * slot:SLOT_BYTES * (slot + 1)])
+
+
+def put_slot(bank, slot, content):
+    """The 256 bytes go back to the named slot."""
+    assert len(content) == SLOT_BYTES
+    bank[SLOT_BYTES * slot:SLOT_BYTES * (slot + 1)] = content
+
+
+def named_slot_refusal(bank, slot):
+    """Refusals 1, 2, 3, which open, push and close share; only the named slot is looked at."""
+    if len(bank) != BANK_BYTES:
+        return Refused(1)
+    if slot > 15:
+        return Refused(2)
+    if damage(slot_bytes(bank, slot)):
+        return Refused(3)
+    return None
+
+
+def is_open(bank, slot):
+    """State 1 is open, 0 is free."""
+    return slot_bytes(bank, slot)[0] == 1
+
+
+def clear(bank):
+    """Clearing zeroes the bank: refused 1."""
+    if len(bank) != BANK_BYTES:
+        return Refused(1)
+    bank[:] = bytes(BANK_BYTES)
+    return DONE
+
+
+def opening_refusal(nominal, rate):
+    """Refusals 6, 7, which open and a file header share."""
+    if nominal not in SERVED:
+        return Refused(6)
+    if rate not in SERVED[nominal] and rate != 0:
+        return Refused(7)
+    return None
+
+
+def open_feed(bank, slot, nominal, rate, soc):
+    """Opening: refused 1, 2, 3, 4, 6, 7."""
+    refusal = named_slot_refusal(bank, slot)
+    if refusal:
+        return refusal
+    if is_open(bank, slot):
+        return Refused(4)
+    refusal = opening_refusal(nominal, rate)
+    if refusal:
+        return refusal
+    feed = Feed(nominal, kept_rate(rate), held=0, soc=soc, index=0, place=0,
+                places=((0, 0, 0),) * PLACES)
+    put_slot(bank, slot, slot_of(feed))
+    return DONE
+
+
+def is_last_sample(feed):
+    """SOC 4294967295 and the sample is the last index of the second."""
+    return feed.soc == LAST_SOC and feed.index == sampling(feed.nominal) - 1
+
+
+def with_sample(feed, sample):
+    """The feed after a sample goes in the next place, which then moves on one, 30 to 0."""
+    places = feed.places[:feed.place] + (sample,) + feed.places[feed.place + 1:]
+    place = 0 if feed.place == 30 else feed.place + 1
+    held = min(feed.held + 1, 31)
+    soc, index = feed.soc, feed.index + 1
+    if index == sampling(feed.nominal):
+        soc, index = feed.soc + 1, 0
+    return Feed(feed.nominal, feed.rate, held, soc, index, place, places)
+
+
+def report_at(feed, soc, index):
+    """The report due with the newest sample, of this SOC and index; None if none is due."""
+    if feed.held < 31:
+        return None
+    centre_soc, centre = soc, index - 15
+    if centre < 0:
+        centre_soc, centre = soc - 1, centre + sampling(feed.nominal)
+    spacing = frame_spacing(feed.nominal, feed.rate)
+    if centre % spacing != 0:
+        return None
+    # with 31 held the next place holds the oldest sample, whose index is the centre's - 15
+    window = feed.places[feed.place:] + feed.places[:feed.place]
+    figures = measure(lambda n: window[n - (centre - 15)], centre, feed.nominal)
+    return Report(centre_soc, centre // spacing, figures)
+
+
+def push(bank, slot, a, b, c):
+    """A push of one sample: refused 1, 2, 3, 5, 8."""
+    refusal = named_slot_refusal(bank, slot)
+    if refusal:
+        return refusal
+    if not is_open(bank, slot):
+        return Refused(5)
+    feed = feed_of(slot_bytes(bank, slot))
+    if is_last_sample(feed):
+        return Refused(8)
+    following = with_sample(feed, (a, b, c))
+    put_slot(bank, slot, slot_of(following))
+    return Taken(report_at(following, feed.soc, feed.index))
+
+
+def close(bank, slot):
+    """Closing zeroes the slot: refused 1, 2, 3, 5."""
+    refusal = named_slot_refusal(bank, slot)
+    if refusal:
+        return refusal
+    if not is_open(bank, slot):
+        return Refused(5)
+    put_slot(bank, slot, bytes(SLOT_BYTES))
+    return DONE
+
+
+# ---------------------------------------------------------------------------
+# The verdict
+
+# limits by class, then by test, three to each: TVE in percent, FE in µHz, RFE in µHz/s
+LIMITS = [
+    [(1, 5000, 10000), (1, 10000, 100000)],
+    [(1, 5000, 10000), (1, 5000, 100000)],
+]
+RAMP = 1
+LEFT_OUT = "left out"
+
+
+class Device(NamedTuple):
+    """re, im; frequency deviation in mHz; ROCOF in hundredths of Hz/s."""
+    re: int
+    im: int
+    frequency: int
+    rocof: int
+
+
+class Reference(NamedTuple):
+    """re, im in the same counts; frequency deviation in µHz; ROCOF in µHz/s."""
+    re: int
+    im: int
+    frequency: int
+    rocof: int
+
+
+class Verdict(NamedTuple):
+    """Whether the device is within TVE, FE and RFE."""
+    tve: bool
+    fe: bool
+    rfe: bool
+
+
+def within_tve(device, reference, percent):
+    """(dr² + di²)·10000 ≤ p²·(re² + im²) of the reference."""
+    dr = device.re - reference.re
+    di = device.im - reference.im
+    return (dr**2 + di**2) * 10000 <= percent**2 * (reference.re**2 + reference.im**2)
+
+
+def within_fe(device, reference, limit):
+    """|1000·device - reference| meets the limit."""
+    return abs(1000 * device.frequency - reference.frequency) <= limit
+
+
+def within_rfe(device, reference, limit):
+    """|10000·device - reference| meets the limit."""
+    return abs(10000 * device.rocof - reference.rocof) <= limit
+
+
+def judge(class_, test, m, device, reference):
+    """The judging of one device report: refused 10, 11, 9, then "left out"."""
+    if class_ > 1:
+        return Refused(10)
+    if test > 1:
+        return Refused(11)
+    if reference.re == 0 and reference.im == 0:
+        return Refused(9)
+    if test == RAMP and m in (0, 1, 2):
+        return LEFT_OUT
+    percent, fe_limit, rfe_limit = LIMITS[class_][test]
+    return Verdict(within_tve(device, reference, percent),
+                   within_fe(device, reference, fe_limit),
+                   within_rfe(device, reference, rfe_limit))
+
+
+# ---------------------------------------------------------------------------
+# PHS files and the listing
+
+HEADER_BYTES = 11
+SAMPLE_BYTES = 6
+
+
+class Header(NamedTuple):
+    """The version, the nominal, the rate as the file gives it, and the SOC."""
+    version: int
+    nominal: int
+    rate: int
+    soc: int
+
+
+def read_header(data):
+    """The header of a file: refused 14, 12, 13, 6, 7."""
+    if len(data) < HEADER_BYTES:
+        return Refused(14)
+    mark, *fields = struct.unpack(">3sHBBI", data[:HEADER_BYTES])
+    header = Header(*fields)
+    if mark != b"PHS":
+        return Refused(12)
+    if header.version != 1:
+        return Refused(13)
+    return opening_refusal(header.nominal, header.rate) or header
+
+
+def tag_and_whole_numbers(report):
+    """SOC frame re im d1 d2 mark, in decimal."""
+    figures = report.figures
+    return "%d %d %d %d %d %d %d" % (report.soc, report.frame, figures.re, figures.im,
+                                     figures.d1, figures.d2, figures.mark)
+
+
+def listing_lines(data):
+    """The lines of the listing of a file."""
+    header = read_header(data)
+    if isinstance(header, Refused):
+        return ["refused %d" % header.number]
+    lines = ["PHS %d %d %d" % (header.version, header.nominal, kept_rate(header.rate))]
+    bank = bytearray(BANK_BYTES)
+    clear(bank)
+    open_feed(bank, 0, header.nominal, header.rate, header.soc)
+    reports = 0
+    samples = 0
+    for at in range(HEADER_BYTES, len(data), SAMPLE_BYTES):
+        sample = data[at:at + SAMPLE_BYTES]
+        if len(sample) < SAMPLE_BYTES:
+            return lines + ["refused 15"]
+        answer = push(bank, 0, *struct.unpack(">hhh", sample))
+        if isinstance(answer, Refused):
+            return lines + ["refused %d" % answer.number]
+        samples += 1
+        if answer.report:
+            reports += 1
+            lines.append(tag_and_whole_numbers(answer.report))
+    return lines + ["reports %d samples %d" % (reports, samples)]
+
+
+def listing(data):
+    """The listing of a file, bytes in and bytes out."""
+    return "".join(line + "\n" for line in listing_lines(data)).encode("ascii")

@@ -1,0 +1,92 @@
+"""Scripts for the replay program, and the lines that the model gives for them.
+
+make SEED CALLS SCRIPT EXPECTED [unknown|cut]  writes a script of at least so many records, and its
+                                               lines; it ends in an unknown byte or a cut record
+compare PROGRAM SEED CALLS                     runs the program on such a script
+endings PROGRAM                                runs it on short scripts of every malformed ending
+"""
+
+import collections
+
+from commands import compared, dispatch, printed_by
+from maker import Maker, record, run_record
+from replay import ARGUMENTS, new_memory, replay
+from scenes import SCENES
+from traffic import any_traffic
+
+REFUSALS_REACHED = {1, 2, 3, 4, 5, 6, 7, 8, 9, 10, 11, 16, 17}
+
+
+# ---------------------------------------------------------------------------
+# Malformed endings
+
+def every_record():
+    """One record of each kind."""
+    return [record(b"C", 4096), record(b"O", 4096, 0, 60, 60, 1000), record(b"P", 4096, 0, 1, 2, 3),
+            record(b"X", 4096, 0), record(b"S", 1, 1), record(b"D", 0),
+            record(b"J", 0, 0, 3, 1, 0, 0, 0, 1, 0, 0, 0), run_record(60, 15, [[1, 2, 3]] * 3)]
+
+
+def cut_endings():
+    """Every record, cut short at every place."""
+    return [data[:length] for data in every_record() for length in range(1, len(data))]
+
+
+def unknown_endings():
+    """Every unknown byte, before a record that is not run."""
+    return [bytes([byte]) + record(b"D", 0) for byte in range(256) if bytes([byte]) not in ARGUMENTS]
+
+
+ENDINGS = {"cut": cut_endings, "unknown": unknown_endings}
+
+
+# ---------------------------------------------------------------------------
+# Commands
+
+def made(seed, calls, ending=None):
+    """A script that reaches every edge and then goes on at random."""
+    maker = Maker(seed)
+    for scene in SCENES:
+        scene(maker)
+    any_traffic(maker, calls)
+    if ending:
+        maker.add(maker.rng.choice(ENDINGS[ending]()))
+    return maker
+
+
+def counts(lines):
+    """How often each answer is given: refusals by number, the others by their first word."""
+    return collections.Counter(line if line.startswith("refused") else line.split()[0] for line in lines)
+
+
+def make(seed, calls, script_path, expected_path, ending=None):
+    """Writes the script and its lines, and prints how often each answer is given."""
+    maker = made(int(seed), int(calls), ending)
+    answers = counts(maker.lines)
+    assert all(answers["refused %d" % number] for number in REFUSALS_REACHED)
+    with open(script_path, "wb") as file:
+        file.writelines(maker.records)
+    with open(expected_path, "w") as file:
+        file.writelines(line + "\n" for line in maker.lines)
+    print("%d records, %d lines" % (len(maker.records), len(maker.lines)))
+    for answer, count in sorted(answers.items()):
+        print("%7d %s" % (count, answer))
+
+
+def compare(program, seed, calls):
+    """Runs the program on a script; 0 if every line agrees, else 1."""
+    maker = made(int(seed), int(calls))
+    return compared(maker.lines, printed_by(program, b"".join(maker.records)), "lines")
+
+
+def endings(program):
+    """Runs the program on every malformed ending; 0 if all agree, else 1."""
+    start = b"".join(every_record())
+    scripts = [start + ending for endings_of in ENDINGS.values() for ending in endings_of()]
+    expected = ["; ".join(replay(script, new_memory())) for script in scripts]
+    printed = ["; ".join(printed_by(program, script)) for script in scripts]
+    return compared(expected, printed, "endings")
+
+
+if __name__ == "__main__":
+    dispatch(__doc__, make, compare, endings)

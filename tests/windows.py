@@ -1,0 +1,292 @@
+"""Windows of 31 three-phase samples, and the figures that the model gives for each.
+
+make FILE        writes the windows as records of 191 bytes
+expect FILE      prints the line of each record
+compare PROGRAM  runs the program on the records and compares its lines
+"""
+
+import itertools
+import random
+import struct
+from typing import NamedTuple
+
+from commands import compared, dispatch, printed_by
+from inputs import HIGH, LOW, clipped, noise_sample, rail_sample, steady_wave
+from lines import figures_line
+from reference import cos, measure, sin
+
+SEED = 3711801
+LENGTH = 31
+CENTRE = 15
+LAST_INDEX = 4294967295
+RECORD_BYTES = 191
+PHASES = range(3)
+LAGS = (0, 5, 10)
+
+
+class Window(NamedTuple):
+    """A nominal, the index of the first sample, and 31 samples a, b, c."""
+    nominal: int
+    first: int
+    samples: list
+
+
+# ---------------------------------------------------------------------------
+# Nominals and indices
+
+def any_nominal(rng):
+    """50 or 60."""
+    return rng.choice((50, 60))
+
+
+def any_index(rng):
+    """An index from 0 to 4294967295, often near either end."""
+    near = rng.randrange(31)
+    return rng.choice((near, LAST_INDEX - near, rng.randint(0, LAST_INDEX), rng.randint(0, 900)))
+
+
+def index_of_residue(rng, residue):
+    """An index of this residue mod 15, from 0 to 4294967295."""
+    most = (LAST_INDEX - residue) // 15
+    return residue + 15 * rng.choice((0, 1, 59, rng.randint(0, most), most))
+
+
+def anywhere(rng, samples):
+    """The samples at any nominal and index."""
+    return Window(any_nominal(rng), any_index(rng), samples)
+
+
+def at_residue(rng, residue, samples):
+    """The samples at any nominal and an index of this residue."""
+    return Window(any_nominal(rng), index_of_residue(rng, residue), samples)
+
+
+# ---------------------------------------------------------------------------
+# Samples
+
+def constant(levels):
+    """31 times the same sample."""
+    return [tuple(levels)] * LENGTH
+
+
+def changed(samples, changes):
+    """The samples with each (place, phase) moved by its change."""
+    moved = [list(sample) for sample in samples]
+    for (place, phase), change in changes.items():
+        moved[place][phase] = clipped(moved[place][phase] + change)
+    return [tuple(sample) for sample in moved]
+
+
+def from_table(table, first, factor):
+    """A positive sequence wave that is a table itself, times a factor."""
+    return [tuple(clipped(factor * table(first + place - lag)) for lag in LAGS)
+            for place in range(LENGTH)]
+
+
+def without_phase(rng):
+    """Equal noise on the three phases beside a constant of each: no centre has a phase."""
+    amplitude = rng.choice((0, 1, 100, 10000))
+    offset = [rng.randint(-10000, 10000) for _ in PHASES]
+    noise_levels = [rng.randint(-amplitude, amplitude) for _ in range(LENGTH)]
+    return [tuple(level + own for own in offset) for level in noise_levels]
+
+
+def multiples(total, first, second):
+    """Whole u and v, u as small as it can be, for which u × first + v × second is the total."""
+    u = total * pow(first, -1, second) % second
+    if u > second // 2:
+        u -= second
+    return u, (total - u * first) // second
+
+
+def of_one_phase(re, im):
+    """The samples of one phase by offset that give this re and im where the centre's entry is 0."""
+    # A count at offset 12 makes re odd, one at offset 10 makes im odd. Then equal counts at offsets
+    # k and -k change re alone, opposite ones im alone, each by twice the weight × the table.
+    odd_re, odd_im = re % 2, im % 2
+    re -= 3 * cos(12) * odd_re + 5 * cos(10) * odd_im
+    im += 3 * sin(12) * odd_re + 5 * sin(10) * odd_im
+    at_12, at_14 = multiples(re // 2, 3 * cos(12), cos(14))
+    at_10, at_13 = multiples(im // 2, -5 * sin(10), -2 * sin(13))
+    return {12: odd_re + at_12, -12: at_12, 14: at_14, -14: at_14,
+            10: odd_im + at_10, -10: -at_10, 13: at_13, -13: -at_13}
+
+
+# ---------------------------------------------------------------------------
+# The windows
+
+def zeros(rng):
+    """Zeros, at each residue of the index and at the last index."""
+    for residue in range(15):
+        yield at_residue(rng, residue, constant((0, 0, 0)))
+    for nominal in (50, 60):
+        yield Window(nominal, LAST_INDEX, constant((0, 0, 0)))
+
+
+def noise(rng):
+    """Noise of several amplitudes, also of a count or two."""
+    for amplitude in (1, 2, 3, 10, 100, 1000, 10000, 32767):
+        for _ in range(300):
+            yield anywhere(rng, [noise_sample(rng, amplitude) for _ in range(LENGTH)])
+
+
+def constant_rails(rng):
+    """Every combination of the rails and zero on the three phases, throughout the window."""
+    for levels in itertools.product((LOW, 0, HIGH), repeat=3):
+        for residue in range(15):
+            yield at_residue(rng, residue, constant(levels))
+
+
+def alternating_rails(rng):
+    """Rails that change over every few samples, each phase starting from either rail."""
+    for period in range(1, 16):
+        for starts in itertools.product((0, 1), repeat=3):
+            for _ in range(3):
+                yield anywhere(rng, [tuple((LOW, HIGH)[(start + place // period) % 2] for start in starts)
+                                     for place in range(LENGTH)])
+
+
+def random_rails(rng):
+    """Each sample at either rail."""
+    for _ in range(500):
+        yield anywhere(rng, [rail_sample(rng) for _ in range(LENGTH)])
+
+
+def matched_rails(rng):
+    """Rails that have the signs of a turned table: unturned, re or im is as large as it can be."""
+    for table in (cos, sin):
+        for upper, lower in ((HIGH, LOW), (LOW, HIGH)):
+            for residue in range(15):
+                for turn in range(15):
+                    signs = from_table(table, residue + turn, 1)
+                    yield at_residue(rng, residue, [tuple(upper if value > 0 else lower for value in sample)
+                                                    for sample in signs])
+
+
+def impulses(rng):
+    """A single impulse in each phase at each place, at each residue of the index."""
+    for place in range(LENGTH):
+        for phase in PHASES:
+            for residue in range(15):
+                for value in (rng.choice((1, -1)), rng.choice((2, -700, HIGH, LOW))):
+                    yield at_residue(rng, residue, changed(constant((0, 0, 0)), {(place, phase): value}))
+
+
+def sines(rng):
+    """Positive sequence from 40 to 70 Hz, of several amplitudes and phases, also clipped."""
+    for frequency in range(40, 71):
+        for amplitude in (1, 3, 50, 2000, 20000, 32767, 60000):
+            for _ in range(12):
+                nominal = any_nominal(rng)
+                exact = frequency + rng.choice((0, rng.uniform(-0.5, 0.5)))
+                samples = steady_wave(nominal, exact, amplitude, LENGTH, rng.random())
+                yield Window(nominal, any_index(rng), samples)
+
+
+def other_sequences(rng):
+    """Negative sequence and zero sequence from 40 to 70 Hz."""
+    for order in (-1, 0):
+        for frequency in range(40, 71, 2):
+            for amplitude in (2, 200, 32767):
+                for _ in range(6):
+                    nominal = any_nominal(rng)
+                    samples = steady_wave(nominal, frequency, amplitude, LENGTH, rng.random(), order)
+                    yield Window(nominal, any_index(rng), samples)
+
+
+def axes(rng):
+    """The tables themselves, so that re or im is exactly 0, and then a count beside the axis."""
+    for table in (cos, sin):
+        for factor in (1, -1, 2, -2):
+            for residue in range(15):
+                samples = from_table(table, residue, factor)
+                yield at_residue(rng, residue, samples)
+                beside = {(rng.randrange(LENGTH), rng.randrange(3)): rng.choice((1, -1))}
+                yield at_residue(rng, residue, changed(samples, beside))
+
+
+def some_without_phase(rng):
+    """One, two or all three of the centres have no phase, or lie half a turn or nothing apart."""
+    # Places 0, 15 and 30 share a table entry. Their weights are 1, 14, 0 at the centre before,
+    # 0, 15, 0 at the centre and 0, 14, 1 at the centre after.
+    for before, at, after in itertools.product((-2, -1, 0, 1, 2), repeat=3):
+        for residue in range(15):
+            phase = rng.randrange(3)
+            scale = rng.choice((1, 1, 7, 300))
+            yield at_residue(rng, residue, changed(without_phase(rng), {
+                (0, phase): scale * (before - 14 * at),
+                (15, phase): scale * at,
+                (30, phase): scale * (after - 14 * at)}))
+
+
+def changed_at_the_ends(rng):
+    """A change of one or two samples at the ends, which one or two of the centres do not see."""
+    for _ in range(600):
+        places = rng.sample((0, 1, 29, 30), rng.choice((1, 2)))
+        changes = {(place, rng.randrange(3)): rng.choice((1, -1, 5, -700)) for place in places}
+        yield anywhere(rng, changed(without_phase(rng), changes))
+
+
+def small_centres(rng):
+    """One of the centres has an re and im of a few counts, where floor and truncation differ most."""
+    for most in (2, 10, 50, 100, 150, 250):
+        for centre, phase in itertools.product((14, 15, 16), PHASES):
+            for _ in range(70):
+                offsets = of_one_phase(rng.randint(-most, most), rng.randint(-most, most))
+                if all(LOW <= value <= HIGH for value in offsets.values()):
+                    changes = {(centre + offset, phase): value for offset, value in offsets.items()}
+                    yield at_residue(rng, (LAGS[phase] - centre) % 15, changed(constant((0, 0, 0)), changes))
+
+
+MAKERS = (zeros, noise, constant_rails, alternating_rails, random_rails, matched_rails, impulses,
+          sines, other_sequences, axes, some_without_phase, changed_at_the_ends, small_centres)
+
+
+def windows():
+    """All the windows, each maker's from its own fixed seed."""
+    return [window for maker in MAKERS for window in maker(random.Random("%d %s" % (SEED, maker.__name__)))]
+
+
+# ---------------------------------------------------------------------------
+# Records
+
+def record(window):
+    """The 191 bytes of a window."""
+    head = struct.pack(">BI", window.nominal, window.first)
+    return head + b"".join(struct.pack(">hhh", *sample) for sample in window.samples)
+
+
+def expected_line(data):
+    """The line of a record: the centre is the sixteenth sample."""
+    nominal, first = struct.unpack(">BI", data[:5])
+    samples = list(struct.iter_unpack(">hhh", data[5:]))
+    return figures_line(measure(lambda n: samples[n - first], first + CENTRE, nominal))
+
+
+def expected_lines(data):
+    """The lines of all records."""
+    assert len(data) % RECORD_BYTES == 0
+    return [expected_line(data[at:at + RECORD_BYTES]) for at in range(0, len(data), RECORD_BYTES)]
+
+
+def make(path):
+    """Writes the records."""
+    with open(path, "wb") as file:
+        file.writelines(record(window) for window in windows())
+
+
+def expect(path):
+    """Prints the line of each record."""
+    with open(path, "rb") as file:
+        for line in expected_lines(file.read()):
+            print(line)
+
+
+def compare(program):
+    """Runs the program on the records; 0 if every line agrees, else 1."""
+    data = b"".join(record(window) for window in windows())
+    return compared(expected_lines(data), printed_by(program, data), "windows")
+
+
+if __name__ == "__main__":
+    dispatch(__doc__, make, expect, compare)
