@@ -1,0 +1,2 @@
+-- The proofs of the buyer's conditions.
+pub mod Within

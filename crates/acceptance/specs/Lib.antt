@@ -1,0 +1,2 @@
+-- The buyer's conditions as statements.
+pub mod Within

@@ -1,0 +1,1 @@
+// The buyer's conditions, stated over the crates' own contracts and proved. It has no code: the statements stand in specs/, the proofs in proofs/.

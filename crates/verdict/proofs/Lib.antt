@@ -1,0 +1,4 @@
+-- The laws of `verdict`.
+mod Bounds
+mod Signs
+pub mod Unique

@@ -1,0 +1,85 @@
+-- Document 01, "The verdict": each error against its limit, what is left out, and the refusals of judging in their order.
+use mathlib.Core.Path.{_≡_}
+use mathlib.Core.Bool.{Bool, cond, _&&_}
+use mathlib.Core.List.{List, [], _∷_}
+use Prim.Native.Nat.{ℕ, _*_}
+use lib.Dec.{ltb, leb, eqb}
+use lib.IntN.{ℤ, pos, natAbs}
+use lib.Signed.{leZ}
+use Rattle.verdict.specs.Errors.{vectorError, magnitude, errorsOf}
+use Rattle.verdict.specs.Limits.{limitsFor}
+use Rattle.refusals.specs.Refusals.{Refusal, judged}
+use Rattle.verdict.specs.declared.errors.Device.{Device}
+use Rattle.verdict.specs.declared.errors.Reference.{Reference}
+use Rattle.verdict.specs.declared.errors.Errors.{Errors}
+use Rattle.verdict.specs.declared.limits.Limits.{Limits}
+use Rattle.verdict.specs.declared.judging.Verdict.{Verdict}
+use Rattle.verdict.specs.declared.judging.Judged.{Judged}
+use Rattle.verdict.specs.declared.judging.Judged.the-variants.{Refused, LeftOut, Told}
+
+-- with limit p percent, TVE is within exactly when (dr² + di²)·10000 ≤ p²·(re² + im²)
+abbrev pub vectorWithin : ℕ → ℕ → ℕ → Bool
+vectorWithin p error size = leb (error * 10000) (p * p * size)
+
+-- the same of a device's re and im and the reference's
+abbrev pub tveWithin : ℕ → ℤ → ℤ → ℤ → ℤ → Bool
+tveWithin p dre dim re im = vectorWithin p (vectorError dre dim re im) (magnitude re im)
+
+-- meeting the limit is within
+unfoldable pub verdictOn : Errors → Limits → Verdict
+verdictOn errors limits =
+    record {
+      tve = vectorWithin (limits .tve) (errors .vector) (errors .magnitude);
+      fe = leb (errors .frequency) (limits .fe);
+      rfe = leb (errors .rocof) (limits .rfe);
+    }
+
+-- in ramp tests m of 0, 1 or 2 is left out; in steady tests m has no effect
+abbrev pub leftOut : ℕ → ℤ → Bool
+leftOut test m = eqb test 1 && leZ (pos 0) m && leZ m (pos 2)
+
+-- class over 1
+abbrev pub noClass : ℕ → Bool
+noClass class = ltb 1 class
+
+-- test over 1
+abbrev pub noTest : ℕ → Bool
+noTest test = ltb 1 test
+
+-- reference re and im both 0
+abbrev pub noReference : Reference → Bool
+noReference reference = eqb (natAbs (reference .re)) 0 && eqb (natAbs (reference .im)) 0
+
+-- judging 10, 11, 9
+abbrev pub judgeRefusals : ℕ → ℕ → Reference → List Refusal
+judgeRefusals class test reference =
+    record { number = 10; due = noClass class }
+    ∷ record { number = 11; due = noTest test }
+    ∷ record { number = 9; due = noReference reference }
+    ∷ []
+
+-- an answer: a refusal's number alone, "left out" with no verdicts, or the verdicts of TVE, FE and RFE
+pub data Answer : Type 0 where
+  refused : ℕ → Answer
+  left-out : Answer
+  verdicts : Bool → Bool → Bool → Answer
+
+abbrev pub told : Verdict → Answer
+told v = verdicts (v .tve) (v .fe) (v .rfe)
+
+-- judging 10, 11, 9, then "left out", then the errors against the limits for class and test
+unfoldable pub judgement : ℕ → ℕ → ℤ → Device → Reference → Answer
+judgement class test m device reference =
+    judged (judgeRefusals class test reference) refused
+    (cond (leftOut test m) left-out
+    (told (verdictOn (errorsOf device reference) (limitsFor class test))))
+
+-- each case of the answer, by document 01's number and values
+abbrev pub said : Judged → Answer
+said (Refused n) = refused n
+said LeftOut = left-out
+said (Told v) = told v
+
+-- what `judge` promises of its answer
+abbrev pub Judging : ℕ → ℕ → ℤ → Device → Reference → Judged → Type 0
+Judging class test m device reference r = said r ≡ judgement class test m device reference

@@ -1,0 +1,94 @@
+// The verdict on a device report: each error against its limit, what is left out, and the refusals in their order.
+ghost use mathlib.Core.Path.{_≡_};
+ghost use Rattle.verdict.specs.Errors.{Small};
+ghost use Rattle.verdict.specs.Judging.{verdictOn, leftOut, noClass, noTest, noReference, Judging};
+use crate::errors::Device;
+use crate::errors::Errors;
+use crate::errors::Reference;
+use crate::errors::errors_of;
+use crate::limits::Limits;
+use crate::limits::limits_for;
+
+// Whether each error is within its limit.
+pub struct Verdict {
+    pub tve: bool,
+    pub fe: bool,
+    pub rfe: bool,
+}
+
+pub enum Judged {
+    // a refusal's number, alone
+    Refused(u8),
+    // left out, with no verdicts
+    LeftOut,
+    // the three verdicts
+    Told(Verdict),
+}
+
+// Each error against its limit: meeting the limit is within.
+fn verdict_on(errors: Errors, limits: Limits) -> Verdict
+    requires { ⌜ Small errors ⌝ }
+    ensures { λ r. ⌜ r ≡ verdictOn errors limits ⌝ }
+{
+    let percent = limits.tve as u64;
+    let vector = errors.vector * 10000;
+    let allowed = percent * percent * errors.magnitude;
+    Verdict {
+        tve: vector <= allowed,
+        fe: errors.frequency <= limits.fe as u64,
+        rfe: errors.rocof <= limits.rfe as u64,
+    }
+}
+
+// Refusal 10: class over 1.
+fn no_class(class: u8) -> bool
+    ensures { λ r. ⌜ r ≡ noClass class ⌝ }
+{
+    1 < class
+}
+
+// Refusal 11: test over 1.
+fn no_test(test: u8) -> bool
+    ensures { λ r. ⌜ r ≡ noTest test ⌝ }
+{
+    1 < test
+}
+
+// Refusal 9: reference re and im both 0.
+fn no_reference(reference: Reference) -> bool
+    ensures { λ r. ⌜ r ≡ noReference reference ⌝ }
+{
+    (reference.re == 0) & (reference.im == 0)
+}
+
+// In ramp tests m of 0, 1 or 2; in steady tests m has no effect.
+fn left_out(test: u8, m: i32) -> bool
+    ensures { λ r. ⌜ r ≡ leftOut test m ⌝ }
+{
+    (test == 1) & (0 <= m) & (m <= 2)
+}
+
+// The judging of one device report: refusals 10, 11, 9, then "left out", then the three verdicts.
+pub fn judge(class: u8, test: u8, m: i32, device: Device, reference: Reference) -> Judged
+    ensures { λ r. ⌜ Judging class test m device reference r ⌝ }
+{
+    let unknown_class = no_class(class);
+    let unknown_test = no_test(test);
+    let zero_reference = no_reference(reference);
+    let skipped = left_out(test, m);
+    if unknown_class {
+        return Judged::Refused(10);
+    }
+    if unknown_test {
+        return Judged::Refused(11);
+    }
+    if zero_reference {
+        return Judged::Refused(9);
+    }
+    if skipped {
+        return Judged::LeftOut;
+    }
+    let errors = errors_of(device, reference);
+    let limits = limits_for(class, test);
+    Judged::Told(verdict_on(errors, limits))
+}
