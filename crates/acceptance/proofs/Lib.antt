@@ -1,2 +1,10 @@
--- The proofs of the buyer's conditions.
+-- The proofs of the statements, and the laws that carry them.
+pub mod ConditionA
 pub mod Within
+pub mod ConditionC
+pub mod Figures
+pub mod Refusing
+pub mod Numbered
+pub mod OnSlot
+pub mod Order
+pub mod Shows

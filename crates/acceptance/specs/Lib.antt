@@ -1,2 +1,7 @@
--- The buyer's conditions as statements.
+-- The buyer's conditions, as statements.
+pub mod ConditionA
 pub mod Within
+pub mod Runs
+pub mod Alone
+pub mod ConditionC
+pub mod Figures

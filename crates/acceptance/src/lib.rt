@@ -1,1 +1,1 @@
-// The buyer's conditions, stated over the crates' own contracts and proved. It has no code: the statements stand in specs/, the proofs in proofs/.
+// What the buyer demands, stated over the crates' own contracts and proved. It has no code: the statements stand in specs/, the proofs in proofs/.

@@ -1,0 +1,45 @@
+-- Condition A holds: each call's contract judges its list of refusals in order, and where none is due its answer is no refusal.
+use mathlib.Core.Path.{_≡_, refl}
+use mathlib.Core.Bool.{Bool, true, false, cond}
+use Prim.Native.Nat.{ℕ, _-_}
+use Rattle.model.specs.declared.report.Figures.{Figures}
+use Rattle.feed.specs.declared.Answer.{Answer}
+use Rattle.feed.specs.declared.Answer.the-variants.{Refused, Taken}
+use Rattle.feed.proofs.Unique.{unsaid}
+use Rattle.feed.specs.Answers.{Said, taken, said, tagged}
+use Rattle.feed.specs.History.{History, nextNumber, isDue, reportAt, answered}
+use Rattle.feed.specs.Ring.{stored, historyOf}
+use Rattle.bank.specs.declared.Settled.the-variants.{Refused as SettledRefused, Done}
+use Rattle.bank.specs.Slot.{slotAt, feedOf}
+use Rattle.bank.specs.Calls.{settled, cleared, openedAt, pushedAt, closedAt}
+use Rattle.acceptance.specs.ConditionA.{ConditionA}
+use Rattle.acceptance.proofs.Refusing.{Granted, refuses}
+
+-- a push can say this, and it is no refusal
+record Grants (s : Said) : Type 0 where
+  answer : Answer
+  says : said answer ≡ s
+  no-refusal : Granted s
+
+tagged-granted : (soc frame : ℕ) (f : Figures) → Grants (tagged soc frame f)
+unfolding tagged
+tagged-granted soc frame f = record { answer = unsaid (tagged soc frame f); says = refl; no-refusal = tt }
+
+answered-granted : (h : History) → Grants (answered h)
+unfolding answered reportAt
+answered-granted h = go (isDue h)
+  where
+    go : (b : Bool) → Grants (cond b (reportAt h (nextNumber h - 16)) taken)
+    go true = tagged-granted _ _ _
+    go false = record { answer = Taken; says = refl; no-refusal = tt }
+
+pub condition-a : ConditionA
+unfolding cleared openedAt pushedAt closedAt
+condition-a = record {
+  clearing = λ bank. refuses settled SettledRefused (λ n. refl) _ bank _ Done refl tt;
+  opening = λ bank slot nominal rate soc. refuses settled SettledRefused (λ n. refl) _ bank _ Done refl tt;
+  pushing = λ bank slot s.
+      let g = answered-granted (historyOf (stored (feedOf (slotAt bank slot)) s)) in
+      refuses said Refused (λ n. refl) _ bank _ (g .answer) (g .says) (g .no-refusal);
+  closing = λ bank slot. refuses settled SettledRefused (λ n. refl) _ bank _ Done refl tt;
+}

@@ -1,0 +1,95 @@
+-- Document 01, "Figures on both sides of each edge": those marked P, as one list under a single claim about the rules themselves.
+use mathlib.Core.Path.{_≡_}
+use mathlib.Core.Bool.{Bool, true, false, cond, _&&_, Bool·beq}
+use mathlib.Core.List.{List, [], _∷_}
+use Prim.Native.Nat.{ℕ}
+use lib.Dec.{eqb}
+use lib.IntN.{ℤ, pos, negsuc, negℤ}
+use lib.Ieee.{binary64, ofInt, toBits}
+use Rattle.model.specs.declared.angle.Phase.{Phase}
+use Rattle.model.specs.declared.filter.Phasor.{Phasor}
+use Rattle.model.specs.declared.filter.Sample.{Sample}
+use Rattle.model.specs.declared.sampling.Nominal.{Nominal}
+use Rattle.model.specs.declared.sampling.Nominal.the-variants.{Sixty}
+use Rattle.model.specs.Filter.{positive, noSample}
+use Rattle.model.specs.Angle.{angleOf, phaseOf}
+use Rattle.model.specs.Report.{minus, signed32, deviationOf, threePhase}
+use Rattle.verdict.specs.Judging.{tveWithin}
+
+-- a phase as the figures give it
+pub data Given : Type 0 where
+  none : Given
+  at : ℕ → Given
+
+pub data Figure : Type 0 where
+  -- angle of (re, im)
+  angle : (re im : ℤ) → Given → Figure
+  -- one sample at an index and zeros elsewhere: re and im at a centre
+  impulse : (sample : Sample) (index centre : ℕ) (re im : ℤ) → Figure
+  -- p and r: d1
+  difference : (p r : ℕ) (d1 : ℤ) → Figure
+  -- d1 at a nominal frequency: the deviation in whole Hz
+  deviation : Nominal → (d1 hz : ℤ) → Figure
+  -- a device's re and im against a reference's, and a limit in percent: whether TVE is within
+  tve : (re im referenceRe referenceIm : ℤ) (percent : ℕ) → Bool → Figure
+
+-- ---- when a figure holds
+
+abbrev same : ℤ → ℤ → Bool
+same (pos m) (pos n) = eqb m n
+same (pos m) (negsuc n) = false
+same (negsuc m) (pos n) = false
+same (negsuc m) (negsuc n) = eqb m n
+
+abbrev isGiven : Phase → Given → Bool
+isGiven p none = p .none
+isGiven p (at parts) = cond (p .none) false (eqb (p .angle .parts) parts)
+
+abbrev alone : Sample → ℕ → ℕ → Sample
+alone s index n = cond (eqb n index) s noSample
+
+unfoldable pub holds : Figure → Bool
+holds (angle re im given) = isGiven (phaseOf (threePhase .limit) (record { re = re; im = im })) given
+holds (impulse s index centre re im) = same (positive (alone s index) centre .re) re && same (positive (alone s index) centre .im) im
+holds (difference p r d1) = same (signed32 (minus (angleOf r) (angleOf p))) d1
+holds (deviation nominal d1 hz) = eqb (toBits binary64 (deviationOf nominal d1)) (toBits binary64 (ofInt binary64 hz))
+holds (tve re im referenceRe referenceIm percent within) = Bool·beq (tveWithin percent re im referenceRe referenceIm) within
+
+abbrev pub allHold : List Figure → Bool
+allHold [] = true
+allHold (f ∷ fs) = holds f && allHold fs
+
+-- ---- the figures
+
+abbrev oneInA : Sample
+oneInA = record { a = pos 1; b = pos 0; c = pos 0 }
+
+abbrev oneInB : Sample
+oneInB = record { a = pos 0; b = pos 1; c = pos 0 }
+
+abbrev less : ℕ → ℤ
+less n = negℤ (pos n)
+
+abbrev pub figures : List Figure
+figures =
+    angle (pos 1) (pos 1) (at 536870912)
+    ∷ angle (less 1) (pos 1) (at 1610612736)
+    ∷ angle (less 1) (less 1) (at 2684354560)
+    ∷ angle (pos 1) (less 1) (at 3758096384)
+    ∷ angle (pos 0) (pos 1) (at 1073741824)
+    ∷ angle (pos 0) (pos 0) none
+    ∷ impulse oneInA 30 30 (pos 245760) (pos 0)
+    ∷ impulse oneInA 31 30 (pos 209552) (less 93296)
+    ∷ impulse oneInB 35 30 (pos 163840) (pos 0)
+    ∷ difference 4294967290 10 (pos 16)
+    ∷ difference 0 2147483648 (less 2147483648)
+    ∷ deviation Sixty (less 2147483648) (less 225)
+    ∷ tve (pos 10100) (pos 0) (pos 10000) (pos 0) 1 true
+    ∷ tve (pos 10060) (pos 80) (pos 10000) (pos 0) 1 true
+    ∷ tve (pos 10101) (pos 0) (pos 10000) (pos 0) 1 false
+    ∷ tve (pos 10060) (pos 81) (pos 10000) (pos 0) 1 false
+    ∷ []
+
+-- every figure of the list is what the rules give
+abbrev pub FiguresHold : Type 0
+FiguresHold = allHold figures ≡ true

@@ -1,0 +1,44 @@
+-- Blank bytes: of two parts, of zeros, and what a blank list is. By the list's length. Assumes nothing.
+use mathlib.Core.Path.{_≡_, refl, sym, ap, _∙_}
+use mathlib.Core.Bool.{Bool, true, false, _&&_}
+use mathlib.Core.List.{List, [], _∷_, _++_}
+use Prim.Native.Nat.{ℕ, zero, suc}
+use native.Mathlib.Omega.{arith}
+use lib.Dec.{eqb}
+use lib.ListN.{length}
+use borrow.Author.Tests.{eqb-true}
+use Rattle.feed.specs.Places.{zeros}
+use Rattle.bank.specs.Damage.{blank}
+
+pub clash : true ≡ false → ⊥
+clash e = let z : _≡_ {A = ℕ} 0 1 = cc in omega arith
+
+pub both-true : (t u : Bool) → (t && u) ≡ true → (t ≡ true) × (u ≡ true)
+both-true true u e = (refl, e)
+both-true false u e = absurd (clash (sym e))
+
+pub and-true : (t : Bool) → (t && true) ≡ t
+and-true true = refl
+and-true false = refl
+
+pub and-assoc : (t u v : Bool) → ((t && u) && v) ≡ (t && (u && v))
+and-assoc true u v = refl
+and-assoc false u v = refl
+
+pub blank-append : (s t : List ℕ) → blank (s ++ t) ≡ (blank s && blank t)
+unfolding blank
+blank-append [] t = refl
+blank-append (b ∷ s) t = ap (λ (r : Bool). eqb b 0 && r) (blank-append s t) ∙ sym (and-assoc (eqb b 0) (blank s) (blank t))
+
+pub zeros-blank : (n : ℕ) → blank (zeros n) ≡ true
+unfolding blank zeros
+zeros-blank zero = refl
+zeros-blank (suc n) = zeros-blank n
+
+-- a blank list is that many zeros
+pub blank-zeros : (s : List ℕ) → blank s ≡ true → s ≡ zeros (length s)
+unfolding blank zeros
+blank-zeros [] e = refl
+blank-zeros (b ∷ s) e =
+    let h = both-true (eqb b 0) (blank s) e in
+    rw (eqb-true b 0 (h .0)) (ap (λ (t : List ℕ). 0 ∷ t) (blank-zeros s (h .1)))

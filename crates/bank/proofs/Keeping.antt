@@ -1,0 +1,115 @@
+-- A feed put into a slot is read from it again, and the slot is not damaged where the feed is kept well; an undamaged open slot keeps such a feed.
+use mathlib.Core.Path.{_≡_, refl, sym, _∙_}
+use mathlib.Core.Bool.{true, false, not, _&&_, _||_}
+use mathlib.Core.List.{List, _++_, append-assoc}
+use Prim.Native.Nat.{ℕ, _*_, _/_, _%_}
+use native.Mathlib.Omega.{arith}
+use lib.Dec.{ltb}
+use lib.ListN.{length, drop, length-append, length-drop, length-replicate}
+use lib.Seq.{take-at, drop-at, length-take-le}
+use borrow.Author.Tests.{eqb-false, eq-eqb, ltb-false, not-false}
+use Rattle.feed.specs.declared.Head.{Head}
+use Rattle.feed.specs.declared.Feed.{Feed}
+use Rattle.feed.specs.Places.{zeros, be16}
+use Rattle.feed.specs.Ring.{faulty}
+use Rattle.feed.proofs.Sound.{neither}
+use Rattle.bank.specs.Slot.{be32, stateOf, headOf, headBytes, placesIn, tailIn, tailOf, feedOf, slotOf, freeSlot}
+use Rattle.bank.specs.Damage.{blank, isFree, isOpen, stray, damaged}
+use Rattle.bank.proofs.Blank.{zeros-blank}
+use Rattle.bank.proofs.Laid.{head-length}
+use Rattle.bank.proofs.States.{open-damaged}
+
+-- what a slot that is open and not damaged keeps: numbers that are not faulty, whole places, and zeros in those not filled
+pub record Kept (f : Feed) : Type 0 where
+  pub faultless : faulty (f .head) ≡ false
+  pub whole : length (f .places) ≡ 186
+  pub unfilled : blank (drop (6 * f .head .held) (f .places)) ≡ true
+
+-- ---- from a feed to its slot and back
+
+tail-length : (f : Feed) → length (tailOf f) ≡ 59
+unfolding tailOf zeros
+tail-length f = length-replicate {A = ℕ} 59 0
+
+head-back : (h : Head) (rest : List ℕ) → headOf (headBytes h ++ rest) ≡ h
+unfolding headOf headBytes
+head-back h rest =
+    let n : ℕ = h .soc in
+    let s : be32 (n / 16777216) (n / 65536 % 256) (n / 256 % 256) (n % 256) ≡ n = omega arith in
+    let i : be16 (h .index / 256) (h .index % 256) ≡ h .index = omega arith in
+    λ d. record { nominal = h .nominal; rate = h .rate; held = h .held; soc = s d; index = i d; place = h .place }
+
+module _ (f : Feed) (whole : length (f .places) ≡ 186) where
+  places-back : placesIn (slotOf f) ≡ f .places
+  unfolding placesIn slotOf
+  places-back =
+      rw (drop-at (headBytes (f .head)) (f .places ++ tailOf f) 11 (head-length (f .head)))
+      (take-at (f .places) (tailOf f) 186 whole)
+
+  tail-back : tailIn (slotOf f) ≡ tailOf f
+  unfolding tailIn slotOf
+  tail-back =
+      let front : length (headBytes (f .head) ++ f .places) ≡ 197 = simp (length-append, head-length) (omega arith) in
+      rw (← append-assoc (headBytes (f .head)) (f .places) (tailOf f)) (drop-at (headBytes (f .head) ++ f .places) (tailOf f) 197 front)
+
+  pub feed-back : feedOf (slotOf f) ≡ f
+  unfolding feedOf slotOf
+  feed-back = λ d. record { head = head-back (f .head) (f .places ++ tailOf f) d; places = places-back d }
+
+  pub slot-whole : length (slotOf f) ≡ 256
+  unfolding slotOf
+  slot-whole = simp (length-append, head-length, tail-length) (omega arith)
+
+pub slot-open : (f : Feed) → stateOf (slotOf f) ≡ 1
+unfolding slotOf headBytes
+slot-open f = refl
+
+tail-blank : (f : Feed) → blank (tailOf f) ≡ true
+unfolding tailOf
+tail-blank f = zeros-blank 59
+
+head-in : (f : Feed) → headOf (slotOf f) ≡ f .head
+unfolding slotOf
+head-in f = head-back (f .head) (f .places ++ tailOf f)
+
+pub kept-undamaged : (f : Feed) → Kept f → damaged (slotOf f) ≡ false
+unfolding stray
+kept-undamaged f k =
+    open-damaged (slotOf f) (slot-open f)
+    ∙ rw (head-in f, places-back f (k .whole), tail-back f (k .whole), k .faultless, k .unfilled, tail-blank f)
+
+pub free-undamaged : damaged freeSlot ≡ false
+unfolding damaged freeSlot zeros
+free-undamaged = rw (zeros-blank 256)
+
+pub free-is-free : isFree freeSlot ≡ true
+unfolding freeSlot zeros
+free-is-free = refl
+
+pub free-whole : length freeSlot ≡ 256
+unfolding freeSlot zeros
+free-whole = length-replicate {A = ℕ} 256 0
+
+-- ---- from a slot to its feed
+
+module _ (s : List ℕ) (whole : length s ≡ 256) (undamaged : damaged s ≡ false) (not-free : isFree s ≡ false) where
+  is-one : stateOf s ≡ 1
+  unfolding damaged
+  is-one =
+      let n = neither (ltb 1 (stateOf s) || (isFree s && not (blank s))) (isOpen s && (faulty (headOf s) || stray s)) undamaged in
+      let m = neither (ltb 1 (stateOf s)) (isFree s && not (blank s)) (n .0) in
+      omega (arith, ltb-false 1 (stateOf s) (m .0), eqb-false (stateOf s) 0 not-free)
+
+  pub is-open : isOpen s ≡ true
+  is-open = eq-eqb (stateOf s) 1 is-one
+
+  pub open-kept : Kept (feedOf s)
+  unfolding feedOf stray placesIn
+  open-kept =
+      let n = neither (faulty (headOf s)) (stray s) (sym (open-damaged s is-one) ∙ undamaged) in
+      let m = neither (not (blank (drop (6 * headOf s .held) (placesIn s)))) (not (blank (tailIn s))) (n .1) in
+      record {
+        faultless = n .0;
+        whole = length-take-le 186 (drop 11 s) (omega (arith, length-drop 11 s));
+        unfilled = not-false (blank (drop (6 * headOf s .held) (placesIn s))) (m .0);
+      }

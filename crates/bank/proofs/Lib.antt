@@ -1,0 +1,13 @@
+-- The laws of `bank`: first those that a reader looks for, then those that the proofs share.
+pub mod Unique
+pub mod RoundTrip
+pub mod Slots
+pub mod Sixteen
+pub mod Keeping
+pub mod KeptOn
+pub mod Blank
+pub mod Lent
+pub mod Stray
+pub mod Laid
+pub mod States
+pub mod Through

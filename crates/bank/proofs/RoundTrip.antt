@@ -1,0 +1,51 @@
+-- An open slot whose tail is blank is the slot of the feed that it keeps: part by part. Assumes nothing.
+use mathlib.Core.Path.{_≡_, refl, sym, _∙_, ap}
+use mathlib.Core.Bool.{true}
+use mathlib.Core.List.{List, [], _∷_}
+use Prim.Native.Nat.{ℕ, zero, suc, _+_, _/_, _%_, _≤_, _<_}
+use native.Mathlib.Omega.{arith}
+use lib.ListN.{length, getD, take, drop, length-drop, take-append-drop}
+use lib.Seq.{drop-drop, drop-cons}
+use Rattle.feed.specs.Places.{zeros, be16}
+use Rattle.bank.specs.Slot.{be32, stateOf, headOf, headBytes, placesIn, tailIn, tailOf, feedOf, slotOf}
+use Rattle.bank.specs.Damage.{blank}
+use Rattle.bank.proofs.Blank.{blank-zeros}
+
+-- every element is a byte
+abbrev pub Bytes : List ℕ → Type 0
+Bytes s = (i : ℕ) → getD s i 0 < 256
+
+-- n elements from the k-th on, spelt out
+abbrev spell : ℕ → ℕ → List ℕ → List ℕ
+spell zero k s = []
+spell (suc n) k s = getD s k 0 ∷ spell n (suc k) s
+
+spelt : (n k : ℕ) (s : List ℕ) → k + n ≤ length s → take n (drop k s) ≡ spell n k s
+spelt zero k s h = refl
+spelt (suc n) k s h =
+    let lt : k < length s = omega arith in
+    rw (drop-cons s k 0 lt, spelt n (suc k) s (omega arith))
+
+module _ (s : List ℕ) (size : length s ≡ 256) (bytes : Bytes s) (one : stateOf s ≡ 1) where
+  head-put : headBytes (headOf s) ≡ take 11 s
+  unfolding headBytes headOf
+  head-put =
+      let n : ℕ = be32 (getD s 4 0) (getD s 5 0) (getD s 6 0) (getD s 7 0) in
+      let m : ℕ = be16 (getD s 8 0) (getD s 9 0) in
+      let b4 : n / 16777216 ≡ getD s 4 0 = omega (arith, bytes 4, bytes 5, bytes 6, bytes 7) in
+      let b5 : n / 65536 % 256 ≡ getD s 5 0 = omega (arith, bytes 4, bytes 5, bytes 6, bytes 7) in
+      let b6 : n / 256 % 256 ≡ getD s 6 0 = omega (arith, bytes 4, bytes 5, bytes 6, bytes 7) in
+      let b7 : n % 256 ≡ getD s 7 0 = omega (arith, bytes 4, bytes 5, bytes 6, bytes 7) in
+      let b8 : m / 256 ≡ getD s 8 0 = omega (arith, bytes 8, bytes 9) in
+      let b9 : m % 256 ≡ getD s 9 0 = omega (arith, bytes 8, bytes 9) in
+      rw (b4, b5, b6, b7, b8, b9) (sym (spelt 11 0 s (omega arith) ∙ rw one))
+
+  tail-put : blank (tailIn s) ≡ true → tailIn s ≡ zeros 59
+  unfolding tailIn
+  tail-put e = blank-zeros (drop 197 s) e ∙ ap zeros (length-drop 197 s ∙ omega arith)
+
+  pub slot-back : blank (tailIn s) ≡ true → slotOf (feedOf s) ≡ s
+  unfolding slotOf feedOf placesIn tailOf tailIn
+  slot-back e =
+      rw (head-put, ← tail-put e, ← drop-drop 186 11 s, take-append-drop 186 (drop 11 s))
+      (take-append-drop 11 s)

@@ -1,0 +1,35 @@
+-- The parts of a slot that the code scans are the unfilled places and the tail: cut at the first unfilled place. Assumes nothing.
+use mathlib.Core.Path.{_≡_, refl, sym, _∙_, ap}
+use mathlib.Core.Bool.{Bool, true, false, cond}
+use mathlib.Core.List.{List}
+use Prim.Native.Nat.{ℕ, _+_, _-_, _*_}
+use native.Mathlib.Omega.{arith}
+use lib.Dec.{ltb}
+use lib.ListN.{length, take, drop, length-drop, drop-of-length-le}
+use lib.Seq.{drop-drop, length-take-le, take-all}
+use borrow.Author.Tests.{ltb-true, ltb-false}
+use Rattle.bank.specs.Slot.{placesIn, tailIn}
+use Rattle.bank.proofs.Slots.{drop-take}
+
+module _ (s : List ℕ) (size : length s ≡ 256) where
+  pub unfilled-scan : (held : ℕ) → take (197 - cond (ltb held 31) (11 + 6 * held) 197) (drop (cond (ltb held 31) (11 + 6 * held) 197) s) ≡ drop (6 * held) (placesIn s)
+  unfolding placesIn
+  unfilled-scan held = go (ltb held 31) refl
+    where
+      places : length (take 186 (drop 11 s)) ≡ 186
+      places = length-take-le 186 (drop 11 s) (simp length-drop (omega arith))
+
+      go : (t : Bool) → ltb held 31 ≡ t → take (197 - cond t (11 + 6 * held) 197) (drop (cond t (11 + 6 * held) 197) s) ≡ drop (6 * held) (take 186 (drop 11 s))
+      go true p =
+          let l = ltb-true held 31 p in
+          let n : 186 ≡ 6 * held + (197 - (11 + 6 * held)) = omega arith in
+          sym (
+          ap (λ (k : ℕ). drop (6 * held) (take k (drop 11 s))) n
+          ∙ drop-take (6 * held) (197 - (11 + 6 * held)) (drop 11 s)
+          ∙ ap (λ (r : List ℕ). take (197 - (11 + 6 * held)) r) (drop-drop (6 * held) 11 s)
+          )
+      go false p = let l = ltb-false held 31 p in sym (drop-of-length-le (take 186 (drop 11 s)) {i = 6 * held} (omega (arith, places)))
+
+  pub tail-scan : take 59 (drop 197 s) ≡ tailIn s
+  unfolding tailIn
+  tail-scan = take-all 59 (drop 197 s) (simp length-drop (omega arith))

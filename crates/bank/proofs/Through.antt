@@ -1,0 +1,66 @@
+-- An open slot's feed, passed through a push and put back, gives the outcome of the bank's push: what the feed refuses with 3 is the slot's damage,
+-- and a refused feed goes back as it was. Assumes nothing.
+use mathlib.Core.Path.{_≡_, refl, sym, _∙_, ap}
+use mathlib.Core.Bool.{Bool, true, false, not}
+use mathlib.Core.List.{List}
+use Prim.Native.Nat.{ℕ, _*_}
+use lib.Dec.{eqb}
+use lib.ListN.{length, drop}
+use borrow.Author.Tests.{not-false}
+use Rattle.model.specs.declared.filter.Sample.{Sample}
+use Rattle.feed.specs.Answers.{refused}
+use Rattle.feed.specs.History.{answered}
+use Rattle.feed.specs.Ring.{faulty, endOfTime, stored, historyOf, Next, pushed}
+use Rattle.feed.proofs.Sound.{neither}
+use Rattle.bank.specs.Slot.{stateOf, headOf, placesIn, tailIn, feedOf, slotOf, withSlot}
+use Rattle.bank.specs.Damage.{blank, isFree, stray, damaged}
+use Rattle.bank.specs.Calls.{Outcome, refusing, pushedAt}
+use Rattle.bank.specs.Lent.{Lies}
+use Rattle.bank.proofs.Lent.{pass, stop, inside, seen, unmoved}
+use Rattle.bank.proofs.States.{or-so, or-not, open-damaged}
+use Rattle.bank.proofs.RoundTrip.{Bytes, slot-back}
+
+-- what a feed's push leaves, put into its slot
+abbrev pub returned : List ℕ → ℕ → Next → Outcome
+returned bank slot n = record { answer = n .answer; bank = withSlot bank slot (slotOf (n .feed)) }
+
+module _ {bank : List ℕ} {slot : ℕ} {s : List ℕ} (l : Lies bank slot s) (size : length s ≡ 256) (bytes : Bytes s) (one : stateOf s ≡ 1) (clean : stray s ≡ false) where
+  unspoilt : blank (tailIn s) ≡ true
+  unfolding stray
+  unspoilt = not-false _ (neither (not (blank (drop (6 * headOf s .held) (placesIn s)))) (not (blank (tailIn s))) clean .1)
+
+  put-back : (n : ℕ) → returned bank slot (record { answer = refused n; feed = feedOf s }) ≡ refusing bank n
+  put-back n =
+      let same = ap (λ (r : List ℕ). withSlot bank slot r) (slot-back s size bytes one unspoilt) ∙ unmoved l in
+      λ i. record { answer = refused n; bank = same i }
+
+  taken : isFree s ≡ false
+  taken = ap (λ (n : ℕ). eqb n 0) one
+
+  pub through : (v : Sample) → returned bank slot (pushed (feedOf s) v) ≡ pushedAt bank slot v
+  unfolding feedOf pushed pushedAt
+  through v = go (faulty (headOf s)) (endOfTime (headOf s) .due) refl refl
+    where
+      go : (t u : Bool) → faulty (headOf s) ≡ t → endOfTime (headOf s) .due ≡ u → returned bank slot (pushed (feedOf s) v) ≡ pushedAt bank slot v
+      go true u p q =
+          ap (λ (n : Next). returned bank slot n) (stop _ _ p)
+          ∙ put-back 3
+          ∙ sym (inside l _ _ _ ∙ stop _ _ (seen l damaged (open-damaged s one ∙ or-so _ p)))
+      go false true p q =
+          ap (λ (n : Next). returned bank slot n) (pass _ _ p ∙ stop _ _ q)
+          ∙ put-back 8
+          ∙ sym (
+          inside l _ _ _
+          ∙ pass _ _ (seen l damaged (open-damaged s one ∙ or-not _ p ∙ clean))
+          ∙ pass _ _ (seen l isFree taken)
+          ∙ stop _ _ (seen l (λ (r : List ℕ). endOfTime (headOf r) .due) q)
+          )
+      go false false p q =
+          ap (λ (n : Next). returned bank slot n) (pass _ _ p ∙ pass _ _ q)
+          ∙ sym (
+          inside l _ _ _
+          ∙ pass _ _ (seen l damaged (open-damaged s one ∙ or-not _ p ∙ clean))
+          ∙ pass _ _ (seen l isFree taken)
+          ∙ pass _ _ (seen l (λ (r : List ℕ). endOfTime (headOf r) .due) q)
+          ∙ ap (λ (r : List ℕ). returned bank slot (record { answer = answered (historyOf (stored (feedOf r) v)); feed = stored (feedOf r) v })) (l .there)
+          )

@@ -1,0 +1,18 @@
+-- `bank::slot::read_feed` meets its contract. Assumes nothing.
+use borrow.Author.Needs.{needs}
+use Rattle.bank.specs.Slot.{feedOf}
+use Rattle.bank.proofs.slot.read_feed.Statement.{statement}
+use Rattle.bank.proofs.slot.read_feed.Tie as tie
+
+read-head-requires : tie.Need-read-head-requires
+read-head-requires c κs = search needs
+
+read-places-requires : tie.Need-read-places-requires
+read-places-requires c κs = search needs
+
+returns : tie.Need-returns
+unfolding feedOf
+returns c = rw (c .before .read-head .ensures, c .read-places .ensures)
+
+pub read-feed-spec : {M : Type 1} → statement M
+read-feed-spec = tie.close (tie.spec read-head-requires read-places-requires returns)

@@ -1,0 +1,122 @@
+-- Document 01, "The bank" and "Refusal numbers": what each call answers and leaves.
+use mathlib.Core.Path.{_≡_}
+use mathlib.Core.Bool.{not, _||_}
+use mathlib.Core.List.{List, [], _∷_}
+use Prim.Native.Nat.{ℕ}
+use lib.Dec.{eqb, ltb}
+use lib.ListN.{length}
+use Rattle.model.specs.declared.filter.Sample.{Sample}
+use Rattle.refusals.specs.Refusals.{Refusal, judged}
+use Rattle.feed.specs.declared.Feed.{Feed}
+use Rattle.feed.specs.declared.Answer.{Answer}
+use Rattle.feed.specs.Tags.{servedNominal, servedRate}
+use Rattle.feed.specs.Answers.{Said, refused, done, said}
+use Rattle.feed.specs.History.{answered}
+use Rattle.feed.specs.Places.{zeros}
+use Rattle.feed.specs.Ring.{opened, stored, historyOf, endOfTime}
+use Rattle.bank.specs.declared.Settled.{Settled}
+use Rattle.bank.specs.declared.Settled.the-variants.{Refused, Done}
+use Rattle.bank.specs.Slot.{slotAt, withSlot, headOf, feedOf, slotOf, freeSlot}
+use Rattle.bank.specs.Damage.{isFree, isOpen, damaged}
+
+-- what a call answers, and the bytes of the bank when it ends
+pub record Outcome : Type 0 where
+  pub answer : Said
+  pub bank : List ℕ
+
+-- A refusal answers its number alone and alters no lent byte
+abbrev pub refusing : List ℕ → ℕ → Outcome
+refusing bank number = record { answer = refused number; bank = bank }
+
+-- Clearing, opening and closing, not refused, answer "done"
+abbrev pub settled : Settled → Said
+settled (Refused number) = refused number
+settled Done = done
+
+-- ---- the refusals
+
+-- 1: bank not 4096 bytes
+abbrev pub wrongLength : List ℕ → Refusal
+wrongLength bank = record { number = 1; due = not (eqb (length bank) 4096) }
+
+-- 2: slot over 15
+abbrev pub noSlot : ℕ → Refusal
+noSlot slot = record { number = 2; due = ltb 15 slot }
+
+-- 3: slot damaged. Only the named slot is looked at
+abbrev pub damagedAt : List ℕ → ℕ → Refusal
+damagedAt bank slot = record { number = 3; due = damaged (slotAt bank slot) }
+
+-- 4: open of an open slot
+abbrev pub isOpenAt : List ℕ → ℕ → Refusal
+isOpenAt bank slot = record { number = 4; due = isOpen (slotAt bank slot) }
+
+-- 5: push or close on a free slot
+abbrev pub isFreeAt : List ℕ → ℕ → Refusal
+isFreeAt bank slot = record { number = 5; due = isFree (slotAt bank slot) }
+
+-- 6: nominal not 50 or 60
+abbrev pub noNominal : ℕ → Refusal
+noNominal nominal = record { number = 6; due = not (servedNominal nominal) }
+
+-- 7: rate not served, and not 0
+abbrev pub noRate : ℕ → ℕ → Refusal
+noRate nominal rate = record { number = 7; due = not (servedRate nominal rate || eqb rate 0) }
+
+-- 8: SOC 4294967295 and the sample is the last index of the second
+abbrev pub endOfTimeAt : List ℕ → ℕ → Refusal
+endOfTimeAt bank slot = endOfTime (headOf (slotAt bank slot))
+
+-- ---- the calls, each with its refusals in their order
+
+-- clear 1
+abbrev pub clearRefusals : List ℕ → List Refusal
+clearRefusals bank = wrongLength bank ∷ []
+
+-- Clearing zeroes the bank
+unfoldable pub cleared : List ℕ → Outcome
+cleared bank = judged (clearRefusals bank) (refusing bank) (record { answer = done; bank = zeros 4096 })
+
+-- open 1, 2, 3, 4, 6, 7
+abbrev pub openRefusals : List ℕ → ℕ → ℕ → ℕ → List Refusal
+openRefusals bank slot nominal rate =
+    wrongLength bank ∷ noSlot slot ∷ damagedAt bank slot ∷ isOpenAt bank slot ∷ noNominal nominal ∷ noRate nominal rate ∷ []
+
+-- Opening sets state 1 and the feed as it is opened
+unfoldable pub openedAt : List ℕ → ℕ → ℕ → ℕ → ℕ → Outcome
+openedAt bank slot nominal rate soc =
+    judged (openRefusals bank slot nominal rate) (refusing bank)
+    (record { answer = done; bank = withSlot bank slot (slotOf (opened nominal rate soc)) })
+
+-- push 1, 2, 3, 5, 8
+abbrev pub pushRefusals : List ℕ → ℕ → List Refusal
+pushRefusals bank slot = wrongLength bank ∷ noSlot slot ∷ damagedAt bank slot ∷ isFreeAt bank slot ∷ endOfTimeAt bank slot ∷ []
+
+-- A feed taken out of its slot passes through a push as one value and goes back
+unfoldable pub pushedAt : List ℕ → ℕ → Sample → Outcome
+pushedAt bank slot s =
+    let next : Feed = stored (feedOf (slotAt bank slot)) s in
+    judged (pushRefusals bank slot) (refusing bank)
+    (record { answer = answered (historyOf next); bank = withSlot bank slot (slotOf next) })
+
+-- close 1, 2, 3, 5
+abbrev pub closeRefusals : List ℕ → ℕ → List Refusal
+closeRefusals bank slot = wrongLength bank ∷ noSlot slot ∷ damagedAt bank slot ∷ isFreeAt bank slot ∷ []
+
+-- Closing zeroes the slot
+unfoldable pub closedAt : List ℕ → ℕ → Outcome
+closedAt bank slot = judged (closeRefusals bank slot) (refusing bank) (record { answer = done; bank = withSlot bank slot freeSlot })
+
+-- ---- what the functions promise: the answer, and the bytes of the bank when they end
+
+abbrev pub Clearing : List ℕ → Settled → List ℕ → Type 0
+Clearing before r after = record { answer = settled r; bank = after } ≡ cleared before
+
+abbrev pub Opening : List ℕ → ℕ → ℕ → ℕ → ℕ → Settled → List ℕ → Type 0
+Opening before slot nominal rate soc r after = record { answer = settled r; bank = after } ≡ openedAt before slot nominal rate soc
+
+abbrev pub Pushing : List ℕ → ℕ → Sample → Answer → List ℕ → Type 0
+Pushing before slot s r after = record { answer = said r; bank = after } ≡ pushedAt before slot s
+
+abbrev pub Closing : List ℕ → ℕ → Settled → List ℕ → Type 0
+Closing before slot r after = record { answer = settled r; bank = after } ≡ closedAt before slot

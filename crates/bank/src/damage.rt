@@ -1,0 +1,61 @@
+// Document 01, "The bank": when a slot is damaged.
+use crate::slot::read_head;
+ghost use mathlib.Core.Path.{_≡_};
+ghost use mathlib.Core.Bool.{cond};
+ghost use Prim.Native.Nat.{_+_, _*_, _≤_};
+ghost use lib.Dec.{ltb};
+ghost use lib.ListN.{length};
+ghost use Rattle.bank.specs.Damage.{blank, stray, damaged};
+
+// Whether every byte is zero. There is no early end, so that many bytes are tested at once.
+pub(crate) fn is_blank(s: &[u8]) -> bool
+    ensures { λ r. ⌜ r ≡ blank (now (s .entry)) ⌝ }
+{
+    let mut zeros = true;
+    let mut i = 0;
+    while i < s.len() {
+        zeros = zeros & (s[i] == 0);
+        i += 1;
+    }
+    zeros
+}
+
+// Where the unfilled places begin: after the last place where all are filled.
+fn unfilled_from(held: u8) -> usize
+    ensures { λ r. ⌜ (r ≡ cond (ltb held 31) (11 + 6 * held) 197) × (r ≤ 197) ⌝ }
+{
+    if held < 31 {
+        11 + 6 * (held as usize)
+    } else {
+        197
+    }
+}
+
+// Whether a byte is nonzero in an unfilled place or after byte 196.
+pub(crate) fn is_stray(s: &[u8]) -> bool
+    requires { ⌜ length (now s) ≡ 256 ⌝ }
+    ensures { λ r. ⌜ r ≡ stray (now (s .entry)) ⌝ }
+{
+    let from = unfilled_from(s[3]);
+    let unfilled = is_blank(&s[from..197]);
+    let rest = is_blank(&s[197..256]);
+    !unfilled | !rest
+}
+
+// Whether a slot is damaged.
+pub(crate) fn is_damaged(s: &[u8]) -> bool
+    requires { ⌜ length (now s) ≡ 256 ⌝ }
+    ensures { λ r. ⌜ r ≡ damaged (now (s .entry)) ⌝ }
+{
+    let state = s[0];
+    if state > 1 {
+        return true;
+    }
+    if state == 0 {
+        return !is_blank(s);
+    }
+    if read_head(s).is_faulty() {
+        return true;
+    }
+    is_stray(s)
+}

@@ -1,0 +1,109 @@
+// Document 01, "The bank": what stands where in a slot of 256 bytes.
+use feed::Feed;
+use feed::Head;
+ghost use mathlib.Core.Path.{_≡_};
+ghost use Prim.Native.Nat.{_+_, _<_};
+ghost use lib.ListN.{length, getD};
+ghost use Rattle.feed.specs.Places.{zeros, be16};
+ghost use Rattle.bank.specs.Slot.{headOf, headBytes, placesIn, feedOf, slotOf};
+
+// Zeroes every byte.
+pub(crate) fn zero(s: &mut [u8])
+    ensures { λ _. ⌜ now (s .exit) ≡ zeros (length (now (s .entry))) ⌝ }
+{
+    let mut i = 0;
+    while i < s.len() {
+        s[i] = 0;
+        i += 1;
+    }
+}
+
+// All of `from` over `to`, which is as long.
+fn put(to: &mut [u8], from: &[u8])
+    requires { ⌜ length (now to) ≡ length (now from) ⌝ }
+    ensures { λ _. ⌜ now (to .exit) ≡ now (from .entry) ⌝ }
+{
+    bytes::copy(from, to);
+}
+
+// The number in two bytes, big-endian.
+fn be16_at(s: &[u8], i: usize) -> u16
+    requires { ⌜ i + 1 < length (now s) ⌝ }
+    ensures { λ r. ⌜ r ≡ be16 (getD (now (s .entry)) i 0) (getD (now (s .entry)) (i + 1) 0) ⌝ }
+{
+    256 * (s[i] as u16) + (s[i + 1] as u16)
+}
+
+// The SOC of the next sample, bytes 4 to 7.
+fn read_soc(s: &[u8]) -> u32
+    requires { ⌜ length (now s) ≡ 256 ⌝ }
+    ensures { λ r. ⌜ r ≡ headOf (now (s .entry)) .soc ⌝ }
+{
+    (be16_at(s, 4) as u32) * 65536 + (be16_at(s, 6) as u32)
+}
+
+// The numbers of an open slot, bytes 1 to 10.
+pub(crate) fn read_head(s: &[u8]) -> Head
+    requires { ⌜ length (now s) ≡ 256 ⌝ }
+    ensures { λ r. ⌜ r ≡ headOf (now (s .entry)) ⌝ }
+{
+    Head {
+        nominal: s[1],
+        rate: s[2],
+        held: s[3],
+        soc: read_soc(s),
+        index: be16_at(s, 8),
+        place: s[10],
+    }
+}
+
+// The thirty-one places, bytes 11 to 196.
+fn read_places(s: &[u8]) -> [u8; 186]
+    requires { ⌜ length (now s) ≡ 256 ⌝ }
+    ensures { λ r. ⌜ r ≡ placesIn (now (s .entry)) ⌝ }
+{
+    let mut places = [0u8; 186];
+    put(&mut places, &s[11..197]);
+    places
+}
+
+// The feed that an open slot keeps.
+pub(crate) fn read_feed(s: &[u8]) -> Feed
+    requires { ⌜ length (now s) ≡ 256 ⌝ }
+    ensures { λ r. ⌜ r ≡ feedOf (now (s .entry)) ⌝ }
+{
+    let head = read_head(s);
+    let places = read_places(s);
+    Feed { head, places }
+}
+
+// Bytes 0 to 10 of an open slot.
+fn head_bytes(h: Head) -> [u8; 11]
+    ensures { λ r. ⌜ r ≡ headBytes h ⌝ }
+{
+    [
+        1,
+        h.nominal,
+        h.rate,
+        h.held,
+        (h.soc / 16777216) as u8,
+        (h.soc / 65536 % 256) as u8,
+        (h.soc / 256 % 256) as u8,
+        (h.soc % 256) as u8,
+        (h.index / 256) as u8,
+        (h.index % 256) as u8,
+        h.place,
+    ]
+}
+
+// A feed goes into its slot: the numbers, the places, then zeros.
+pub(crate) fn put_feed(s: &mut [u8], f: Feed)
+    requires { ⌜ length (now s) ≡ 256 ⌝ }
+    ensures { λ _. ⌜ now (s .exit) ≡ slotOf f ⌝ }
+{
+    let places = f.places;
+    let head = head_bytes(f.head);
+    put(&mut s[0..11], &head);
+    put(&mut s[11..197], &places);
+    zero(&mut s[197..256]);
+}

@@ -1,0 +1,126 @@
+-- The history rule looks at no more than a history's numbers and its last thirty-one samples: histories alike in these are answered alike, and stay alike.
+use mathlib.Core.Path.{_≡_, refl, sym, ap, ap₂, _∙_}
+use mathlib.Core.Bool.{Bool, true, false, cond}
+use mathlib.Core.List.{List, [], _∷_, _++_}
+use Prim.Native.Nat.{ℕ, _+_, _-_, _≤_, min}
+use native.Mathlib.Omega.{arith}
+use lib.Dec.{leb}
+use lib.ListN.{length, getD, length-append}
+use lib.Seq.{getD-drop}
+use borrow.Author.Tests.{le-leb, lt-leb, leb-true, leb-false}
+use Rattle.model.specs.declared.filter.Sample.{Sample}
+use Rattle.model.specs.Filter.{windowed, noSample}
+use Rattle.model.specs.Report.{threePhase}
+use Rattle.model.proofs.Same.{figures-same}
+use Rattle.feed.specs.Tags.{nominalOf, socOf, indexOf}
+use Rattle.feed.specs.Answers.{Said, refused, taken, tagged}
+use Rattle.feed.specs.History.{History, nextNumber, grown, isDue, reportAt, answered, lastSample, Told, told}
+use Rattle.feed.specs.Ring.{lastOf}
+use Rattle.feed.proofs.Latest.{length-last, last-snoc, last-last}
+
+pub record Alike (h k : History) : Type 0 where
+  pub nominal-same : h .nominal ≡ k .nominal
+  pub rate-same : h .rate ≡ k .rate
+  pub next-same : nextNumber h ≡ nextNumber k
+  pub latest-same : lastOf 31 (h .samples) ≡ lastOf 31 (k .samples)
+
+pub alike-self : (h : History) → Alike h h
+alike-self h = record { nominal-same = refl; rate-same = refl; next-same = refl; latest-same = refl }
+
+pub alike-on : (h k l : History) → Alike h k → Alike k l → Alike h l
+alike-on h k l a b = record {
+  nominal-same = a .nominal-same ∙ b .nominal-same;
+  rate-same = a .rate-same ∙ b .rate-same;
+  next-same = a .next-same ∙ b .next-same;
+  latest-same = a .latest-same ∙ b .latest-same;
+}
+
+-- a sample among the last thirty-one, under its number
+windowed-latest : (xs : List Sample) (first n : ℕ) → 31 ≤ length xs → first + length xs ≤ n + 31
+    → windowed xs first n ≡ getD (lastOf 31 xs) (n + 31 - (first + length xs)) noSample
+windowed-latest xs first n h l =
+    let e : length xs - 31 + (n + 31 - (first + length xs)) ≡ n - first = omega arith in
+    ap (λ (i : ℕ). getD xs i noSample) (sym e) ∙ sym (getD-drop (length xs - 31) xs (n + 31 - (first + length xs)) noSample)
+
+-- whether the next sample is the last that SOC 4294967295 has
+abbrev pub isLast : History → Bool
+isLast h = (lastSample (h .nominal) (socOf (h .nominal) (nextNumber h)) (indexOf (h .nominal) (nextNumber h))) .due
+
+pub told-last : (h : History) (s : Sample) → isLast h ≡ true → told h s ≡ record { answer = refused 8; history = h }
+unfolding told
+told-last h s e = rw e
+
+pub told-on : (h : History) (s : Sample) → isLast h ≡ false → told h s ≡ record { answer = answered (grown h s); history = grown h s }
+unfolding told
+told-on h s e = rw e
+
+-- the same answer, and histories that are alike after it
+pub record ToldAlike (t u : Told) : Type 0 where
+  pub answer-same : t .answer ≡ u .answer
+  pub still-alike : Alike (t .history) (u .history)
+
+module _ (h k : History) (a : Alike h k) where
+  -- as many are held, as far as thirty-one
+  pub held-same : min 31 (length (h .samples)) ≡ min 31 (length (k .samples))
+  held-same = sym (length-last 31 (h .samples)) ∙ ap length (a .latest-same) ∙ length-last 31 (k .samples)
+
+  enough-same : leb 31 (length (h .samples)) ≡ leb 31 (length (k .samples))
+  enough-same = go (leb 31 (length (h .samples))) refl
+    where
+      go : (b : Bool) → leb 31 (length (h .samples)) ≡ b → b ≡ leb 31 (length (k .samples))
+      go true e = sym (le-leb 31 (length (k .samples)) (omega (arith, leb-true 31 (length (h .samples)) e, held-same)))
+      go false e = sym (lt-leb 31 (length (k .samples)) (omega (arith, leb-false 31 (length (h .samples)) e, held-same)))
+
+  due-same : isDue h ≡ isDue k
+  unfolding isDue
+  due-same = rw (enough-same, a .nominal-same, a .rate-same, a .next-same)
+
+  sample-same : 31 ≤ length (h .samples) → (n : ℕ) → nextNumber h ≤ n + 31 → windowed (h .samples) (h .first) n ≡ windowed (k .samples) (k .first) n
+  sample-same l n p =
+      windowed-latest (h .samples) (h .first) n l p
+      ∙ ap₂ (λ (xs : List Sample) (m : ℕ). getD xs (n + 31 - m) noSample) (a .latest-same) (a .next-same)
+      ∙ sym (windowed-latest (k .samples) (k .first) n (omega (arith, held-same)) (omega (arith, a .next-same)))
+
+  report-same : 31 ≤ length (h .samples) → reportAt h (nextNumber h - 16) ≡ reportAt k (nextNumber k - 16)
+  unfolding reportAt
+  report-same l =
+      rw (← a .nominal-same, ← a .rate-same, ← a .next-same)
+      (ap (tagged _ _)
+      (figures-same (windowed (h .samples) (h .first)) (windowed (k .samples) (k .first)) threePhase (nominalOf (h .nominal)) (nextNumber h - 16) (nextNumber h - 16)
+      (omega arith) (omega arith) refl (λ j p. sample-same l (nextNumber h - 16 + j - 15) (omega arith))))
+
+  pub answered-same : answered h ≡ answered k
+  unfolding answered isDue
+  answered-same = rw (← due-same) (go (leb 31 (length (h .samples))) refl)
+    where
+      go : (b : Bool) → leb 31 (length (h .samples)) ≡ b → cond (isDue h) (reportAt h (nextNumber h - 16)) taken ≡ cond (isDue h) (reportAt k (nextNumber k - 16)) taken
+      go true e = ap (λ (r : Said). cond (isDue h) r taken) (report-same (leb-true 31 (length (h .samples)) e))
+      go false e = rw e
+
+  thirty-same : lastOf 30 (h .samples) ≡ lastOf 30 (k .samples)
+  thirty-same =
+      sym (last-last 30 31 (h .samples)) ∙ ap (λ (xs : List Sample). lastOf 30 xs) (a .latest-same) ∙ last-last 30 31 (k .samples)
+
+  pub grown-alike : (s : Sample) → Alike (grown h s) (grown k s)
+  unfolding grown
+  grown-alike s = record {
+    nominal-same = a .nominal-same;
+    rate-same = a .rate-same;
+    next-same = omega (arith, a .next-same, length-append (h .samples) (s ∷ []), length-append (k .samples) (s ∷ []));
+    latest-same = last-snoc 30 (h .samples) s ∙ ap (λ (xs : List Sample). xs ++ (s ∷ [])) thirty-same ∙ sym (last-snoc 30 (k .samples) s);
+  }
+
+  lasts-same : isLast h ≡ isLast k
+  lasts-same = rw (a .nominal-same, a .next-same)
+
+pub told-alike : (h k : History) → Alike h k → (s : Sample) → ToldAlike (told h s) (told k s)
+told-alike h k a s = go (isLast h) refl
+  where
+    on : Alike (grown h s) (grown k s)
+    on = grown-alike h k a s
+
+    go : (b : Bool) → isLast h ≡ b → ToldAlike (told h s) (told k s)
+    go true e = rw (told-last h s e, told-last k s (sym (lasts-same h k a) ∙ e)) (record { answer-same = refl; still-alike = a })
+    go false e =
+        rw (told-on h s e, told-on k s (sym (lasts-same h k a) ∙ e))
+        (record { answer-same = answered-same (grown h s) (grown k s) on; still-alike = on })

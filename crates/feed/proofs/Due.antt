@@ -1,0 +1,104 @@
+-- The report that comes with a sample, told of the head before it, is the one that the history rule gives of the samples then held: where
+-- thirty were held the ring read round is the whole history, where fewer were neither gives one. Assumes nothing.
+use mathlib.Core.Path.{_≡_, refl, sym, ap, _∙_}
+use mathlib.Core.Bool.{Bool, true, false, cond, _&&_}
+use mathlib.Core.List.{List}
+use Prim.Native.Nat.{ℕ, suc, _+_, _-_, _*_, _%_, _<_, _≤_, min}
+use native.Mathlib.Omega.{arith}
+use lib.Dec.{leb, ltb, eqb}
+use lib.ListN.{length, drop, length-drop}
+use borrow.Author.Tests.{leb-true, leb-false, le-leb, lt-leb, ltb-true, ltb-false, eqb-true, eqb-false}
+use Rattle.model.specs.declared.filter.Sample.{Sample}
+use Rattle.feed.specs.declared.Head.{Head}
+use Rattle.feed.specs.declared.Feed.{Feed}
+use Rattle.feed.specs.Tags.{samplingOf, spacing, indexOf}
+use Rattle.feed.specs.Answers.{Said, taken}
+use Rattle.feed.specs.History.{History, nextNumber, isDue, reportAt, answered}
+use Rattle.feed.specs.Places.{samplesOf}
+use Rattle.feed.specs.Ring.{nextOf, turns, nextHead, round, lastOf, historyOf}
+use Rattle.feed.specs.Newest.{centreNumber, dueWith, reportWith}
+use Rattle.feed.proofs.Sound.{Sound}
+use Rattle.feed.proofs.Standing.{started}
+use Rattle.feed.proofs.Samples.{samples-length}
+use Rattle.feed.proofs.Rounds.{length-round}
+
+-- ---- the head after one sample more
+
+module _ (h : Head) (s : Sound h) where
+  pub held-after : nextHead h .held ≡ suc (min 30 (h .held))
+  unfolding nextHead
+  held-after = go (ltb (h .held) 31) refl
+    where
+      go : (b : Bool) → ltb (h .held) 31 ≡ b → cond b (h .held + 1) (h .held) ≡ suc (min 30 (h .held))
+      go true e = omega (arith, ltb-true (h .held) 31 e)
+      go false e = omega (arith, s .held, ltb-false (h .held) 31 e)
+
+  pub place-after : nextHead h .place ≤ 30
+  unfolding nextHead
+  place-after = go (eqb (h .place) 30) refl
+    where
+      go : (b : Bool) → eqb (h .place) 30 ≡ b → cond b 0 (h .place + 1) ≤ 30
+      go true e = omega arith
+      go false e = let n = eqb-false (h .place) 30 e in omega (arith, s .place)
+
+  pub clock-after : nextOf (nextHead h) ≡ nextOf h + 1
+  unfolding nextHead
+  clock-after = go (turns h) refl
+    where
+      go : (b : Bool) → turns h ≡ b → cond b (h .soc + 1) (h .soc) * samplingOf (h .nominal) + cond b 0 (h .index + 1) ≡ nextOf h + 1
+      go true e = omega (arith, eqb-true (h .index + 1) (samplingOf (h .nominal)) e)
+      go false e = omega arith
+
+-- ---- the history of what is then held
+
+module _ (h : Head) (s : Sound h) (p : List ℕ) where
+  -- the feed with one sample more, and the samples in its places, oldest first
+  abbrev pub next : Feed
+  next = record { head = nextHead h; places = p }
+
+  abbrev pub window : List Sample
+  window = round (nextHead h .place) (samplesOf 31 p)
+
+  window-length : length window ≡ 31
+  window-length =
+      let l : length (samplesOf 31 p) ≡ 31 = samples-length 31 p in
+      length-round (nextHead h .place) (samplesOf 31 p) (omega (arith, place-after h s)) ∙ l
+
+  -- all that is told, where thirty were held
+  told : History
+  told = record { nominal = h .nominal; rate = h .rate; first = nextOf h - 30; samples = window }
+
+  first-is : 30 ≤ h .held → nextOf (nextHead h) - nextHead h .held ≡ nextOf h - 30
+  first-is full = omega (arith, held-after h s, clock-after h s, started h s)
+
+  samples-are : 30 ≤ h .held → lastOf (nextHead h .held) window ≡ window
+  samples-are full =
+      let e : length window - nextHead h .held ≡ 0 = omega (arith, window-length, held-after h s) in
+      ap (λ (n : ℕ). drop n window) e
+
+  whole : 30 ≤ h .held → historyOf next ≡ told
+  unfolding historyOf told nextHead
+  whole full = λ i. record { nominal = h .nominal; rate = h .rate; first = first-is full i; samples = samples-are full i }
+
+  at-centre : 30 ≤ h .held → nextNumber told - 16 ≡ centreNumber h
+  unfolding told
+  at-centre full = omega (arith, window-length, started h s)
+
+  told-is : 30 ≤ h .held → answered told ≡ cond (dueWith h) (reportWith h window) taken
+  unfolding told answered isDue reportAt dueWith reportWith
+  told-is full =
+      let t : leb 31 (length window) ≡ true = le-leb 31 (length window) (omega (arith, window-length)) in
+      rw (t, at-centre full, le-leb 30 (h .held) full)
+
+  short : h .held < 30 → answered (historyOf next) ≡ cond (dueWith h) (reportWith h window) taken
+  unfolding historyOf answered isDue dueWith
+  short l =
+      let n : length (lastOf (nextHead h .held) window) < 31 = simp length-drop (omega (arith, window-length, held-after h s)) in
+      rw (lt-leb 31 (length (lastOf (nextHead h .held) window)) n, lt-leb 30 (h .held) l)
+
+  pub answer-is : answered (historyOf next) ≡ cond (dueWith h) (reportWith h window) taken
+  answer-is = go (leb 30 (h .held)) refl
+    where
+      go : (b : Bool) → leb 30 (h .held) ≡ b → answered (historyOf next) ≡ cond (dueWith h) (reportWith h window) taken
+      go true e = let l = leb-true 30 (h .held) e in ap answered (whole l) ∙ told-is l
+      go false e = short (leb-false 30 (h .held) e)

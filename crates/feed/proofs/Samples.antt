@@ -1,0 +1,48 @@
+-- The samples in places: each is read of its own six bytes. Assumes nothing.
+use mathlib.Core.Path.{_≡_, refl, sym, ap, _∙_}
+use mathlib.Core.List.{List, [], _∷_}
+use Prim.Native.Nat.{ℕ, zero, suc, _+_, _*_, _<_, _≤_}
+use native.Mathlib.Omega.{arith}
+use native.Mathlib.Nat.{add-zero}
+use lib.Dec.{lit<}
+use lib.ListN.{length, getD, take, drop}
+use lib.Seq.{getD-take, getD-drop, drop-drop}
+use Rattle.model.specs.declared.filter.Sample.{Sample}
+use Rattle.model.specs.Filter.{noSample}
+use Rattle.feed.specs.Places.{be16, signed16, sampleOf, samplesOf}
+
+-- byte k of six that start somewhere
+byte-of : (l : List ℕ) (at k : ℕ) → k < 6 → getD (take 6 (drop at l)) k 0 ≡ getD l (at + k) 0
+byte-of l at k h = getD-take 6 (drop at l) k 0 h ∙ getD-drop at l k 0
+
+-- the sample in six bytes that start somewhere
+pub six-bytes : (l : List ℕ) (at : ℕ) → sampleOf (take 6 (drop at l)) ≡ record {
+  a = signed16 (be16 (getD l at 0) (getD l (at + 1) 0));
+  b = signed16 (be16 (getD l (at + 2) 0) (getD l (at + 3) 0));
+  c = signed16 (be16 (getD l (at + 4) 0) (getD l (at + 5) 0));
+}
+unfolding sampleOf
+six-bytes l at =
+    let first : getD (take 6 (drop at l)) 0 0 ≡ getD l at 0 = byte-of l at 0 (lit< tt) ∙ ap (λ (k : ℕ). getD l k 0) (add-zero at) in
+    rw (
+      first,
+      byte-of l at 1 (lit< tt),
+      byte-of l at 2 (lit< tt),
+      byte-of l at 3 (lit< tt),
+      byte-of l at 4 (lit< tt),
+      byte-of l at 5 (lit< tt),
+    )
+
+pub samples-length : (n : ℕ) (p : List ℕ) → length (samplesOf n p) ≡ n
+unfolding samplesOf
+samples-length zero p = refl
+samples-length (suc n) p = ap suc (samples-length n (drop 6 p))
+
+-- sample j is the one in place j
+pub sample-in : (n : ℕ) (p : List ℕ) (j : ℕ) → j < n → getD (samplesOf n p) j noSample ≡ sampleOf (take 6 (drop (6 * j) p))
+unfolding samplesOf
+sample-in zero p j h = absurd (omega arith)
+sample-in (suc n) p zero h = refl
+sample-in (suc n) p (suc j) h =
+    let e : 6 + 6 * j ≡ 6 * suc j = omega arith in
+    sample-in n (drop 6 p) j (omega arith) ∙ ap (λ (l : List ℕ). sampleOf (take 6 l)) (drop-drop (6 * j) 6 p ∙ ap (λ (k : ℕ). drop k p) e)

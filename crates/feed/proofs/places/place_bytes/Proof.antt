@@ -1,0 +1,66 @@
+-- `place_bytes` answers a sample's six bytes: the two of each part's bits. Assumes nothing.
+use mir.Syntax.{w16}
+use mir.Val.{SFits}
+use mir.Facts.{toZ-ofZ}
+use Rattle.feed.specs.Places.{placeOf}
+use borrow.Author.Needs.{needs}
+use Rattle.feed.proofs.places.place_bytes.Statement.{statement}
+use Rattle.feed.proofs.places.place_bytes.Tie as tie
+
+bits-requires : tie.Need-bits-requires
+bits-requires c κs = search needs
+
+bits-requires-2 : tie.Need-bits-requires-2
+bits-requires-2 c κs = search needs
+
+bits-requires-3 : tie.Need-bits-requires-3
+bits-requires-3 c κs = search needs
+
+cast-t6 : tie.Need-cast-t6
+cast-t6 c = search needs
+
+cast-t8 : tie.Need-cast-t8
+cast-t8 c = search needs
+
+cast-t10 : tie.Need-cast-t10
+cast-t10 c = search needs
+
+cast-t12 : tie.Need-cast-t12
+cast-t12 c = search needs
+
+cast-t14 : tie.Need-cast-t14
+cast-t14 c = search needs
+
+cast-t16 : tie.Need-cast-t16
+cast-t16 c = search needs
+
+returns : tie.Need-returns
+unfolding placeOf
+returns c =
+    let s = c .before .before .before .before .before .before .args .s in
+    let a : SFits w16 (s .a) = search needs in
+    let b : SFits w16 (s .b) = search needs in
+    let d : SFits w16 (s .c) = search needs in
+    rw (
+      c .before .before .before .before .bits .ensures,
+      c .before .before .bits2 .ensures,
+      c .bits3 .ensures,
+      toZ-ofZ {w = w16} {z = s .a} a,
+      toZ-ofZ {w = w16} {z = s .b} b,
+      toZ-ofZ {w = w16} {z = s .c} d,
+    )
+
+pub place-bytes-spec : {M : Type 1} → statement M
+place-bytes-spec =
+    tie.close
+    (tie.spec
+    bits-requires
+    bits-requires-2
+    bits-requires-3
+    cast-t6
+    cast-t8
+    cast-t10
+    cast-t12
+    cast-t14
+    cast-t16
+    returns)

@@ -1,0 +1,7 @@
+-- The definitions of `feed`: `History` is condition B's rule, with no ring and no bytes; `Places` and `Ring` are the feed as the bank keeps it.
+pub mod Tags
+pub mod Answers
+pub mod History
+pub mod Places
+pub mod Ring
+pub mod Newest

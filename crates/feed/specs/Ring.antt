@@ -1,0 +1,105 @@
+-- Document 01, "The bank": a feed as its slot keeps it, and what opening and pushing do to it.
+use mathlib.Core.Path.{_≡_}
+use mathlib.Core.Bool.{Bool, cond, not, _&&_, _||_}
+use mathlib.Core.List.{List, [], _∷_, _++_}
+use Prim.Native.Nat.{ℕ, _+_, _-_, _*_}
+use lib.Dec.{ltb, eqb}
+use lib.ListN.{length, take, drop}
+use Rattle.model.specs.declared.filter.Sample.{Sample}
+use Rattle.refusals.specs.Refusals.{Refusal, judged}
+use Rattle.feed.specs.declared.Head.{Head}
+use Rattle.feed.specs.declared.Feed.{Feed}
+use Rattle.feed.specs.declared.Pushed.{Pushed}
+use Rattle.feed.specs.Tags.{servedNominal, servedRate, keptRate, samplingOf}
+use Rattle.feed.specs.Answers.{Said, refused, said}
+use Rattle.feed.specs.History.{History, answered, lastSample}
+use Rattle.feed.specs.Places.{zeros, samplesOf, withPlace}
+
+-- ---- the numbers
+
+-- an unserved nominal or rate (a kept 0 included)
+unfoldable pub unserved : Head → Bool
+unserved h = not (servedNominal (h .nominal)) || not (servedRate (h .nominal) (h .rate))
+
+-- fewer than 31 held where place or index differs from held
+unfoldable pub uneven : Head → Bool
+uneven h = ltb (h .held) 31 && (not (eqb (h .place) (h .held)) || not (eqb (h .index) (h .held)))
+
+-- 31 held with SOC 0 and index under 31
+unfoldable pub early : Head → Bool
+early h = eqb (h .held) 31 && (eqb (h .soc) 0 && ltb (h .index) 31)
+
+-- the faults of the numbers: an unserved nominal or rate, index not below the sampling, held over 31, place over 30, and those two
+unfoldable pub faulty : Head → Bool
+faulty h = unserved h || not (ltb (h .index) (samplingOf (h .nominal))) || ltb 31 (h .held) || ltb 30 (h .place) || uneven h || early h
+
+-- the number of the next sample, from index 0 of SOC 0
+abbrev pub nextOf : Head → ℕ
+nextOf h = h .soc * samplingOf (h .nominal) + h .index
+
+-- ---- opening
+
+-- Opening sets the nominal, the kept rate, the SOC, index 0, none held, place 0, all places zero
+unfoldable pub opened : ℕ → ℕ → ℕ → Feed
+opened nominal rate soc = record {
+  head = record { nominal = nominal; rate = keptRate nominal rate; held = 0; soc = soc; index = 0; place = 0 };
+  places = zeros 186;
+}
+
+-- ---- pushing
+
+-- whether the next sample is the last of its second
+abbrev pub turns : Head → Bool
+turns h = eqb (h .index + 1) (samplingOf (h .nominal))
+
+-- A sample goes in the next place, which then moves on one, 30 to 0; the next sample stands one index on, or at the next second's index 0
+unfoldable pub nextHead : Head → Head
+nextHead h = record {
+  nominal = h .nominal;
+  rate = h .rate;
+  held = cond (ltb (h .held) 31) (h .held + 1) (h .held);
+  soc = cond (turns h) (h .soc + 1) (h .soc);
+  index = cond (turns h) 0 (h .index + 1);
+  place = cond (eqb (h .place) 30) 0 (h .place + 1);
+}
+
+unfoldable pub stored : Feed → Sample → Feed
+stored f s = record { head = nextHead (f .head); places = withPlace (f .places) (f .head .place) s }
+
+-- thirty-one samples, from the next place round: the oldest first
+abbrev pub round : {S : Type 0} → ℕ → List S → List S
+round place l = drop place l ++ take place l
+
+abbrev pub lastOf : {S : Type 0} → ℕ → List S → List S
+lastOf n l = drop (length l - n) l
+
+-- the samples that a feed holds, as a history
+unfoldable pub historyOf : Feed → History
+historyOf f = record {
+  nominal = f .head .nominal;
+  rate = f .head .rate;
+  first = nextOf (f .head) - f .head .held;
+  samples = lastOf (f .head .held) (round (f .head .place) (samplesOf 31 (f .places)));
+}
+
+-- numbers that no feed has are refused as damage, 3; then 8
+abbrev pub faultyHead : Head → Refusal
+faultyHead h = record { number = 3; due = faulty h }
+
+abbrev pub endOfTime : Head → Refusal
+endOfTime h = lastSample (h .nominal) (h .soc) (h .index)
+
+-- what a push answers, and the next feed: the report is the one due of the samples that the feed then holds
+pub record Next : Type 0 where
+  pub answer : Said
+  pub feed : Feed
+
+unfoldable pub pushed : Feed → Sample → Next
+pushed f s =
+    judged (faultyHead (f .head) ∷ endOfTime (f .head) ∷ [])
+    (λ n. record { answer = refused n; feed = f })
+    (record { answer = answered (historyOf (stored f s)); feed = stored f s })
+
+-- what `Feed::push` promises
+abbrev pub Pushing : Feed → Sample → Pushed → Type 0
+Pushing f s r = record { answer = said (r .answer); feed = r .feed } ≡ pushed f s

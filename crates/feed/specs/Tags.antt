@@ -1,0 +1,44 @@
+-- Document 01, "Sampling and tags".
+use mathlib.Core.Bool.{Bool, true, false, cond, _||_}
+use mathlib.Core.List.{List, [], _∷_}
+use Prim.Native.Nat.{ℕ, _*_, _/_, _%_}
+use lib.Dec.{eqb}
+use Rattle.model.specs.declared.sampling.Nominal.{Nominal}
+use Rattle.model.specs.declared.sampling.Nominal.the-variants.{Fifty, Sixty}
+
+-- Nominal frequency is 50 or 60 Hz
+abbrev pub servedNominal : ℕ → Bool
+servedNominal nominal = eqb nominal 50 || eqb nominal 60
+
+abbrev pub nominalOf : ℕ → Nominal
+nominalOf nominal = cond (eqb nominal 50) Fifty Sixty
+
+-- Sampling is 15 per nominal cycle
+abbrev pub samplingOf : ℕ → ℕ
+samplingOf nominal = 15 * nominal
+
+-- Served rates: 10, 25, 50 reports a second at 50 Hz; 10, 12, 15, 20, 30, 60 at 60 Hz
+abbrev pub rates : ℕ → List ℕ
+rates nominal = cond (eqb nominal 50) (10 ∷ 25 ∷ 50 ∷ []) (cond (eqb nominal 60) (10 ∷ 12 ∷ 15 ∷ 20 ∷ 30 ∷ 60 ∷ []) [])
+
+abbrev pub among : ℕ → List ℕ → Bool
+among n [] = false
+among n (m ∷ ms) = eqb n m || among n ms
+
+unfoldable pub servedRate : ℕ → ℕ → Bool
+servedRate nominal rate = among rate (rates nominal)
+
+-- Rate 0 in an opening or a file header stands for 10, and 10 is what is kept
+unfoldable pub keptRate : ℕ → ℕ → ℕ
+keptRate nominal rate = cond (eqb rate 0) 10 rate
+
+-- D = sampling / rate
+abbrev pub spacing : ℕ → ℕ → ℕ
+spacing nominal rate = samplingOf nominal / rate
+
+-- Sample index 0 of a second falls on the UTC second: samples are numbered from index 0 of SOC 0, and number n has this SOC and this index
+abbrev pub socOf : ℕ → ℕ → ℕ
+socOf nominal n = n / samplingOf nominal
+
+abbrev pub indexOf : ℕ → ℕ → ℕ
+indexOf nominal n = n % samplingOf nominal

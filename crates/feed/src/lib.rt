@@ -1,0 +1,321 @@
+// One feed as a value: its head, its thirty-one places, and what a sample does to it.
+mod places;
+mod tags;
+
+use model::Sample;
+use model::measure;
+use places::place_bytes;
+use places::sample_at;
+pub use tags::kept_rate;
+use tags::nominal_of;
+pub use tags::served_nominal;
+pub use tags::served_rate;
+ghost use mathlib.Core.Path.{_≡_};
+ghost use mathlib.Core.Bool.{false, cond};
+ghost use Prim.Native.Nat.{_+_, _≤_};
+ghost use lib.Dec.{ltb, eqb};
+ghost use Rattle.feed.specs.Tags.{samplingOf, spacing};
+ghost use Rattle.feed.specs.Answers.{saidReport};
+ghost use Rattle.feed.specs.Places.{samplesOf};
+ghost use Rattle.feed.specs.Ring.{unserved, uneven, early, faulty, opened, endOfTime, nextHead, stored, round, Pushing};
+ghost use Rattle.feed.specs.Newest.{centreOf, dueWith, reportWith};
+
+// The numbers of a feed: what it is opened with, how many samples it holds, where the next one stands and where it goes.
+pub struct Head {
+    pub nominal: u8,
+    pub rate: u8,
+    pub held: u8,
+    // SOC of the next sample, and its index in the second
+    pub soc: u32,
+    pub index: u16,
+    // the next place, 0 to 30
+    pub place: u8,
+}
+
+// A feed: its head, and thirty-one places of three samples, each sample two bytes, big-endian.
+// The places stay bytes, so that a push reads them only where a report is due.
+pub struct Feed {
+    pub head: Head,
+    pub places: [u8; 186],
+}
+
+// A report: its tag, then the figures at its centre.
+pub struct Report {
+    pub soc: u32,
+    pub frame: u8,
+    pub re: i64,
+    pub im: i64,
+    pub d1: i32,
+    pub d2: i32,
+    pub mark: u8,
+    // re and im in peak counts
+    pub re_peak: f64,
+    pub im_peak: f64,
+    // the frequency deviation in Hz
+    pub deviation: f64,
+    // the rate of change of frequency in Hz/s
+    pub rocof: f64,
+}
+
+// What a push answers: refused, taken without a report, or taken with one.
+pub enum Answer {
+    Refused(u8),
+    Taken,
+    Reported(Report),
+}
+
+// The next feed, beside the answer.
+pub struct Pushed {
+    pub feed: Feed,
+    pub answer: Answer,
+}
+
+// Where a report's centre stands: its SOC, and its index in the second.
+struct Centre {
+    soc: u32,
+    index: u16,
+}
+
+// The place after a place: 30 to 0.
+fn next_place(place: u8) -> u8
+    requires { ⌜ place ≤ 30 ⌝ }
+    ensures { λ r. ⌜ r ≡ cond (eqb place 30) 0 (place + 1) ⌝ }
+{
+    if place == 30 { 0 } else { place + 1 }
+}
+
+// One more held, and no more than 31.
+fn more_held(held: u8) -> u8
+    ensures { λ r. ⌜ r ≡ cond (ltb held 31) (held + 1) held ⌝ }
+{
+    if held < 31 { held + 1 } else { held }
+}
+
+impl Head {
+    // Sampling is 15 per nominal cycle.
+    fn sampling(self) -> u16
+        ensures { λ r. ⌜ r ≡ samplingOf (self .nominal) ⌝ }
+    {
+        15 * self.nominal as u16
+    }
+
+    // An unserved nominal or rate (a kept 0 included).
+    fn is_unserved(self) -> bool
+        ensures { λ r. ⌜ r ≡ unserved self ⌝ }
+    {
+        !served_nominal(self.nominal) | !served_rate(self.nominal, self.rate)
+    }
+
+    // Fewer than 31 held where place or index differs from held.
+    fn is_uneven(self) -> bool
+        ensures { λ r. ⌜ r ≡ uneven self ⌝ }
+    {
+        (self.held < 31) & ((self.place != self.held) | (self.index != self.held as u16))
+    }
+
+    // 31 held with SOC 0 and index under 31.
+    fn is_early(self) -> bool
+        ensures { λ r. ⌜ r ≡ early self ⌝ }
+    {
+        (self.held == 31) & ((self.soc == 0) & (self.index < 31))
+    }
+
+    // Whether no feed has these numbers: the damage of a slot that its numbers show.
+    pub fn is_faulty(self) -> bool
+        ensures { λ r. ⌜ r ≡ faulty self ⌝ }
+    {
+        self.is_unserved()
+            | !(self.index < self.sampling())
+            | (self.held > 31)
+            | (self.place > 30)
+            | self.is_uneven()
+            | self.is_early()
+    }
+
+    // SOC 4294967295 and the next sample is the last index of the second.
+    fn is_at_end(self) -> bool
+        requires { ⌜ faulty self ≡ false ⌝ }
+        ensures { λ r. ⌜ r ≡ endOfTime self .due ⌝ }
+    {
+        (self.soc == 4294967295) & (self.index + 1 == self.sampling())
+    }
+
+    // The head after one sample more: one index on, or at the next second's index 0.
+    fn next(self) -> Head
+        requires { ⌜ faulty self ≡ false ⌝ }
+        requires { ⌜ endOfTime self .due ≡ false ⌝ }
+        ensures { λ r. ⌜ r ≡ nextHead self ⌝ }
+    {
+        let held = more_held(self.held);
+        let place = next_place(self.place);
+        let index = self.index + 1;
+        if index == self.sampling() {
+            return Head {
+                nominal: self.nominal,
+                rate: self.rate,
+                held,
+                soc: self.soc + 1,
+                index: 0,
+                place,
+            };
+        }
+        Head {
+            nominal: self.nominal,
+            rate: self.rate,
+            held,
+            soc: self.soc,
+            index,
+            place,
+        }
+    }
+
+    // D = sampling / rate.
+    fn spacing(self) -> u16
+        requires { ⌜ faulty self ≡ false ⌝ }
+        ensures { λ r. ⌜ r ≡ spacing (self .nominal) (self .rate) ⌝ }
+    {
+        self.sampling() / self.rate as u16
+    }
+
+    // The sample 15 before the next one: of the same second, or of the second before.
+    fn centre(self) -> Centre
+        requires { ⌜ faulty self ≡ false ⌝ }
+        requires { ⌜ 30 ≤ self .held ⌝ }
+        ensures { λ r. ⌜ r ≡ centreOf self ⌝ }
+    {
+        if self.index >= 15 {
+            return Centre {
+                soc: self.soc,
+                index: self.index - 15,
+            };
+        }
+        Centre {
+            soc: self.soc - 1,
+            index: self.index + self.sampling() - 15,
+        }
+    }
+
+    // Whether a report comes with the next sample: 31 are then held, and the centre's index is a multiple of D.
+    fn is_due(self) -> bool
+        requires { ⌜ faulty self ≡ false ⌝ }
+        ensures { λ r. ⌜ r ≡ dueWith self ⌝ }
+    {
+        if self.held < 30 {
+            return false;
+        }
+        let centre = self.centre();
+        centre.index % self.spacing() == 0
+    }
+
+    // The report that comes with the next sample, of the thirty-one samples then held: tagged with its centre's SOC and frame.
+    fn report(self, window: [Sample; 31]) -> Report
+        requires { ⌜ faulty self ≡ false ⌝ }
+        requires { ⌜ 30 ≤ self .held ⌝ }
+        ensures { λ r. ⌜ saidReport r ≡ reportWith self window ⌝ }
+    {
+        let centre = self.centre();
+        let frame = centre.index / self.spacing();
+        let figures = measure(window, self.index as usize, nominal_of(self.nominal));
+        Report {
+            soc: centre.soc,
+            frame: frame as u8,
+            re: figures.re,
+            im: figures.im,
+            d1: figures.d1,
+            d2: figures.d2,
+            mark: figures.mark,
+            re_peak: figures.re_peak,
+            im_peak: figures.im_peak,
+            deviation: figures.deviation,
+            rocof: figures.rocof,
+        }
+    }
+}
+
+impl Feed {
+    // A feed as it is opened: the nominal, the kept rate, the SOC, index 0, none held, place 0, all places zero.
+    pub fn open(nominal: u8, rate: u8, soc: u32) -> Feed
+        ensures { λ r. ⌜ r ≡ opened nominal rate soc ⌝ }
+    {
+        let head = Head {
+            nominal,
+            rate: kept_rate(nominal, rate),
+            held: 0,
+            soc,
+            index: 0,
+            place: 0,
+        };
+        Feed {
+            head,
+            places: [0; 186],
+        }
+    }
+
+    // A sample goes in the next place, which then moves on one.
+    fn store(mut self, s: Sample) -> Feed
+        requires { ⌜ faulty (self .head) ≡ false ⌝ }
+        requires { ⌜ endOfTime (self .head) .due ≡ false ⌝ }
+        ensures { λ r. ⌜ r ≡ stored self s ⌝ }
+    {
+        let head = self.head;
+        let bytes = place_bytes(s);
+        let at = 6 * head.place as usize;
+        self.places[at] = bytes[0];
+        self.places[at + 1] = bytes[1];
+        self.places[at + 2] = bytes[2];
+        self.places[at + 3] = bytes[3];
+        self.places[at + 4] = bytes[4];
+        self.places[at + 5] = bytes[5];
+        self.head = head.next();
+        self
+    }
+
+    // Thirty-one samples from the next place round: the oldest first.
+    fn window(self) -> [Sample; 31]
+        requires { ⌜ self .head .place ≤ 30 ⌝ }
+        ensures { λ r. ⌜ r ≡ round (self .head .place) (samplesOf 31 (self .places)) ⌝ }
+    {
+        let places = self.places;
+        let mut window = [Sample { a: 0, b: 0, c: 0 }; 31];
+        let mut place = self.head.place;
+        let mut i: usize = 0;
+        while i < 31 {
+            let s = sample_at(&places, place as usize);
+            window[i] = s;
+            place = next_place(place);
+            i += 1;
+        }
+        window
+    }
+
+    // One sample more: refused 3, 8, and then nothing changes; else taken, with the report if one is due.
+    pub fn push(self, s: Sample) -> Pushed
+        ensures { λ r. ⌜ Pushing self s r ⌝ }
+    {
+        let head = self.head;
+        if head.is_faulty() {
+            return Pushed {
+                feed: self,
+                answer: Answer::Refused(3),
+            };
+        }
+        if head.is_at_end() {
+            return Pushed {
+                feed: self,
+                answer: Answer::Refused(8),
+            };
+        }
+        let feed = self.store(s);
+        if head.is_due() {
+            let report = head.report(feed.window());
+            return Pushed {
+                feed,
+                answer: Answer::Reported(report),
+            };
+        }
+        Pushed {
+            feed,
+            answer: Answer::Taken,
+        }
+    }
+}

@@ -1,0 +1,57 @@
+// Document 01, "The bank": places of three samples, each sample two bytes, big-endian.
+use model::Sample;
+ghost use mathlib.Core.Path.{_≡_};
+ghost use Prim.Native.Nat.{_+_, _*_, _≤_};
+ghost use lib.ListN.{length, take, drop};
+ghost use Rattle.feed.specs.Places.{be16, signed16, bits16, sampleOf, placeOf};
+
+fn wide(byte: u8) -> u16
+    ensures { λ r. ⌜ r ≡ byte ⌝ }
+{
+    byte as u16
+}
+
+// The number of two bytes, read as a signed number.
+fn signed(high: u8, low: u8) -> i16
+    ensures { λ r. ⌜ r ≡ signed16 (be16 high low) ⌝ }
+{
+    let n = 256 * wide(high) + wide(low);
+    if n < 32768 { n as i16 } else { !(!n as i16) }
+}
+
+// A signed number's 16 bits.
+fn bits(n: i16) -> u16
+    ensures { λ r. ⌜ r ≡ bits16 n ⌝ }
+{
+    if n < 0 { !(!n as u16) } else { n as u16 }
+}
+
+// The sample in a place.
+pub(crate) fn sample_at(places: &[u8], place: usize) -> Sample
+    requires { ⌜ 6 * place + 6 ≤ length (now places) ⌝ }
+    ensures { λ r. ⌜ r ≡ sampleOf (take 6 (drop (6 * place) (now (places .entry)))) ⌝ }
+{
+    let at = 6 * place;
+    Sample {
+        a: signed(places[at], places[at + 1]),
+        b: signed(places[at + 2], places[at + 3]),
+        c: signed(places[at + 4], places[at + 5]),
+    }
+}
+
+// A sample's six bytes.
+pub(crate) fn place_bytes(s: Sample) -> [u8; 6]
+    ensures { λ r. ⌜ r ≡ placeOf s ⌝ }
+{
+    let a = bits(s.a);
+    let b = bits(s.b);
+    let c = bits(s.c);
+    [
+        (a / 256) as u8,
+        (a % 256) as u8,
+        (b / 256) as u8,
+        (b % 256) as u8,
+        (c / 256) as u8,
+        (c % 256) as u8,
+    ]
+}

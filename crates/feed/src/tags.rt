@@ -1,0 +1,50 @@
+// Document 01, "Sampling and tags": which nominal frequencies and rates are served.
+use model::Nominal;
+ghost use mathlib.Core.Path.{_≡_};
+ghost use Rattle.feed.specs.Tags.{servedNominal, servedRate, keptRate, nominalOf};
+
+// Nominal frequency is 50 or 60 Hz.
+pub fn served_nominal(nominal: u8) -> bool
+    ensures { λ r. ⌜ r ≡ servedNominal nominal ⌝ }
+{
+    (nominal == 50) | (nominal == 60)
+}
+
+// Served rates: 10, 25, 50 reports a second at 50 Hz; 10, 12, 15, 20, 30, 60 at 60 Hz.
+pub fn served_rate(nominal: u8, rate: u8) -> bool
+    ensures { λ r. ⌜ r ≡ servedRate nominal rate ⌝ }
+{
+    if nominal == 50 {
+        return (rate == 10) | (rate == 25) | (rate == 50);
+    }
+    if nominal == 60 {
+        return (rate == 10)
+            | (rate == 12)
+            | (rate == 15)
+            | (rate == 20)
+            | (rate == 30)
+            | (rate == 60);
+    }
+    false
+}
+
+// Rate 0 stands for 10, and 10 is what is kept.
+pub fn kept_rate(nominal: u8, rate: u8) -> u8
+    ensures { λ r. ⌜ r ≡ keptRate nominal rate ⌝ }
+{
+    if rate == 0 {
+        return 10;
+    }
+    rate
+}
+
+// The nominal frequency that a served number is.
+pub(crate) fn nominal_of(nominal: u8) -> Nominal
+    ensures { λ r. ⌜ r ≡ nominalOf nominal ⌝ }
+{
+    if nominal == 50 {
+        Nominal::Fifty
+    } else {
+        Nominal::Sixty
+    }
+}

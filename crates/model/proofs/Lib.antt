@@ -1,0 +1,14 @@
+-- The laws of `model`: first those that a reader looks for, then those that the functions' proofs share.
+pub mod Unique
+pub mod Quarter
+pub mod Tables
+pub mod Small
+pub mod Same
+pub mod Weights
+pub mod Stepping
+pub mod Quadrant
+pub mod Silence
+pub mod Turns
+pub mod Marks
+pub mod Samplings
+pub mod Parts

@@ -1,0 +1,97 @@
+-- One step, by the sign of im; the steps that are left, one fewer; and how large both parts grow: from step to step by a floor at most, so that
+-- they stay within 2^60. Assumes nothing.
+use mathlib.Core.Path.{_≡_, sym, _∙_, ap, subst}
+use mathlib.Core.Bool.{Bool, true, false, cond}
+use Prim.Native.Nat.{ℕ, zero, suc, _+_, _-_, _^_, _≤_, _<_}
+use native.Mathlib.Nat.{le-refl, le-trans, add-zero, add-suc, not-suc-le-zero}
+use native.Mathlib.Omega.{arith}
+use lib.Dec.{lit≤}
+use lib.Pow.{pow-pos}
+use lib.IntN.{ℤ, pos, natAbs, _+ℤ_, _-ℤ_}
+use lib.Signed.{ltZ}
+use Rattle.ints.specs.Whole.{floorDiv}
+use Rattle.ints.proofs.Cases.{when-true, when-false}
+use Rattle.ints.proofs.Size.{size-floor, size-add, size-minus, mag-le, div-mono}
+use Rattle.model.specs.Angle.{step, steps, above, below}
+use Rattle.model.specs.Bounds.{cap, Sized, Within}
+use Rattle.model.specs.declared.angle.Turning.{Turning}
+
+-- ---- the step, by the sign of im
+module _ (i : ℕ) (v : Turning) where
+  pub step-above : ltZ (pos 0) (v .im) ≡ true → step i v ≡ above i v
+  unfolding step
+  step-above e = when-true (ltZ (pos 0) (v .im)) _ _ e
+
+  pub step-below : ltZ (pos 0) (v .im) ≡ false → ltZ (v .im) (pos 0) ≡ true → step i v ≡ below i v
+  unfolding step
+  step-below e f = when-false (ltZ (pos 0) (v .im)) _ _ e ∙ when-true (ltZ (v .im) (pos 0)) _ _ f
+
+  pub step-still : ltZ (pos 0) (v .im) ≡ false → ltZ (v .im) (pos 0) ≡ false → step i v ≡ v
+  unfolding step
+  step-still e f = when-false (ltZ (pos 0) (v .im)) _ _ e ∙ when-false (ltZ (v .im) (pos 0)) _ _ f
+
+-- ---- the steps that are left
+pub steps-none : (left : ℕ) (v : Turning) → left ≡ 0 → steps left v ≡ v
+unfolding steps
+steps-none left v e = ap (λ (k : ℕ). steps k v) e
+
+pub steps-more : (left : ℕ) (v : Turning) → 0 < left → steps left v ≡ steps (left - 1) (step (24 - left) v)
+unfolding steps
+steps-more zero v h = absurd (not-suc-le-zero h)
+steps-more (suc n) v h =
+    let e : n ≡ suc n - 1 = omega arith in
+    let f : 23 - n ≡ 24 - suc n = omega arith in
+    λ i. steps (e i) (step (f i) v)
+
+-- ---- how large
+
+-- one part plus or minus the floor of the other
+grown : (op : ℤ → ℤ → ℤ) → ((a b : ℤ) → natAbs (op a b) ≤ natAbs a + natAbs b) → (x y : ℤ) (i : ℕ) → natAbs x ≤ cap i → natAbs y ≤ cap i
+    → natAbs (op x (floorDiv y (2 ^ i))) ≤ cap (suc i)
+unfolding cap
+grown op size x y i p q =
+    omega (arith, size x (floorDiv y (2 ^ i)), size-floor y (2 ^ i), div-mono (2 ^ i) (pow-pos i) (le-trans (mag-le y) q))
+
+grows : (i : ℕ) → cap i ≤ cap (suc i)
+unfolding cap
+grows i = omega arith
+
+within-step : (i : ℕ) (v : Turning) → Within i v → Within (suc i) (step i v)
+unfolding step
+within-step i v w = pick (ltZ (pos 0) (v .im)) (ltZ (v .im) (pos 0))
+  where
+    more : (x y : ℤ) → natAbs x ≤ cap i → natAbs y ≤ cap i → natAbs (x +ℤ floorDiv y (2 ^ i)) ≤ cap (suc i)
+    more x y = grown _+ℤ_ size-add x y i
+
+    fewer : (x y : ℤ) → natAbs x ≤ cap i → natAbs y ≤ cap i → natAbs (x -ℤ floorDiv y (2 ^ i)) ≤ cap (suc i)
+    fewer x y = grown _-ℤ_ size-minus x y i
+
+    pick : (t u : Bool) → Within (suc i) (cond t (above i v) (cond u (below i v) v))
+    pick true u = record { re-size = more (v .re) (v .im) (w .re-size) (w .im-size); im-size = fewer (v .im) (v .re) (w .im-size) (w .re-size) }
+    pick false true = record { re-size = fewer (v .re) (v .im) (w .re-size) (w .im-size); im-size = more (v .im) (v .re) (w .im-size) (w .re-size) }
+    pick false false = record { re-size = le-trans (w .re-size) (grows i); im-size = le-trans (w .im-size) (grows i) }
+
+-- what is handed on, with one step fewer left
+pub within-next : (left : ℕ) (v : Turning) → 0 < left → left ≤ 24 → Within (24 - left) v → Within (24 - (left - 1)) (step (24 - left) v)
+within-next left v h k w = subst (λ (i : ℕ). Within i (step (24 - left) v)) e (within-step (24 - left) v w)
+  where
+    e : suc (24 - left) ≡ 24 - (left - 1)
+    e = omega arith
+
+cap-far : (i d : ℕ) → cap i ≤ cap (i + d)
+cap-far i zero = subst (λ (k : ℕ). cap i ≤ cap k) (sym (add-zero i)) (le-refl (cap i))
+cap-far i (suc d) = subst (λ (k : ℕ). cap i ≤ cap k) (sym (add-suc i d)) (le-trans (cap-far i d) (grows (i + d)))
+
+last : cap 24 ≤ 2 ^ 60
+unfolding cap
+last = lit≤ tt
+
+-- before each step both parts are within 2^60
+pub within-60 : (i : ℕ) → i ≤ 24 → {re im : ℤ} → Sized (cap i) re im → Sized (2 ^ 60) re im
+within-60 i h w = record { re-size = le-trans (w .re-size) fits; im-size = le-trans (w .im-size) fits }
+  where
+    e : i + (24 - i) ≡ 24
+    e = omega arith
+
+    fits : cap i ≤ 2 ^ 60
+    fits = le-trans (subst (λ (k : ℕ). cap i ≤ cap k) e (cap-far i (24 - i))) last

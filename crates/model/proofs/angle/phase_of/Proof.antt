@@ -1,0 +1,51 @@
+-- `phase_of` is the phase: scaled, turned and stepped as the definition has it, each within what the next asks. Assumes nothing.
+use mathlib.Core.Path.{_≡_, sym, _∙_, ap, subst}
+use mathlib.Core.Bool.{false}
+use lib.Dec.{lit≤}
+use Rattle.model.specs.Angle.{steps, turned, scaled, phaseAngle}
+use Rattle.model.specs.Bounds.{Sized, Within, cap}
+use Rattle.model.specs.declared.filter.Phasor.{Phasor}
+use Rattle.model.proofs.Silence.{phase-none, phase-some}
+use Rattle.model.proofs.Quadrant.{turned-sized, scaled-sized}
+use Rattle.model.proofs.Stepping.{within-60}
+use borrow.Author.Needs.{needs}
+use Rattle.model.proofs.angle.phase_of.Statement.{statement}
+use Rattle.model.proofs.angle.phase_of.Tie as tie
+
+is-silent-requires : tie.Need-is-silent-requires
+is-silent-requires c κs = search needs
+
+returns : tie.Need-returns
+returns c = let s = c .before .before in sym (phase-none (s .args .limit) (s .args .p) (sym (c .before .is-silent .ensures) ∙ c .if1 .taken))
+
+times-65536-requires : tie.Need-times-65536-requires
+times-65536-requires c κs = search needs
+
+-- what is scaled is where the steps begin
+scaled-is : (c : tie.After-times-65536) → Sized (cap 0) (c .times-65536 .result .re) (c .times-65536 .result .im)
+scaled-is c = subst (λ (p : Phasor). Sized (cap 0) (p .re) (p .im)) (sym (c .times-65536 .ensures)) (scaled-sized (c .before .before .before .args .p) (c .before .before .before .pre))
+
+first-quadrant-requires : tie.Need-first-quadrant-requires
+first-quadrant-requires c κs = within-60 0 (lit≤ tt) (scaled-is c)
+
+steps-left-requires : tie.Need-steps-left-requires
+steps-left-requires c κs = (lit≤ tt, subst (Within 0) (sym (c .first-quadrant .ensures)) (turned-sized (cap 0) (c .before .times-65536 .result) (scaled-is (c .before))))
+
+returns-2 : tie.Need-returns-2
+unfolding phaseAngle
+returns-2 c =
+    let s = c .before .before .before .before .before .before in
+    let e : c .before .steps-left .result ≡ steps 24 (turned (scaled (s .args .p))) = c .before .steps-left .ensures ∙ ap (steps 24) (c .before .before .first-quadrant .ensures ∙ ap turned (c .before .before .before .times-65536 .ensures)) in
+    (λ i. record { angle = (e i) .angle; none = false })
+    ∙ sym (phase-some (s .args .limit) (s .args .p) (sym (c .before .before .before .before .before .is-silent .ensures) ∙ c .before .before .before .before .if1 .left))
+
+pub phase-of-spec : {M : Type 1} → statement M
+phase-of-spec =
+    tie.close
+    (tie.spec
+    is-silent-requires
+    returns
+    times-65536-requires
+    first-quadrant-requires
+    steps-left-requires
+    returns-2)

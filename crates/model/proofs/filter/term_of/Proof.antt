@@ -1,0 +1,44 @@
+-- `term_of` is the weight times the three products; a weight is at most 15. Assumes nothing.
+use mathlib.Core.Path.{sym, _∙_, ap₂, subst}
+use Prim.Native.Nat.{ℕ, _*_, _≤_}
+use native.Mathlib.Omega.{arith}
+use lib.IntN.{ℤ, pos, natAbs, _*ℤ_}
+use mir.Syntax.{w64}
+use Rattle.ints.proofs.Size.{size-mul-le}
+use Rattle.ints.proofs.Signed.{Exp, count, whole, _⊗_, at, fits}
+use Rattle.model.specs.Filter.{weight}
+use Rattle.model.proofs.Weights.{weight-within}
+use borrow.Author.Needs.{needs}
+use Rattle.model.proofs.filter.term_of.Statement.{statement}
+use Rattle.model.proofs.filter.term_of.Tie as tie
+
+weight-of-requires : tie.Need-weight-of-requires
+weight-of-requires c κs = search needs
+
+abbrev g : tie.After-weight-of → Exp w64
+g c = count (c .weight-of .result) 15 (omega (arith, c .weight-of .ensures, weight-within (c .before .args .j)))
+
+abbrev product : tie.After-three-entries → Exp w64
+product c = g (c .before) ⊗ whole (c .three-entries .result) 1610612736 (c .three-entries .ensures .1)
+
+cast-g : tie.Need-cast-g
+cast-g c = fits (g c) tt
+
+three-entries-requires : tie.Need-three-entries-requires
+three-entries-requires c κs = search needs
+
+mul-result : tie.Need-mul-result
+mul-result c = fits (product c) tt
+
+returns : tie.Need-returns
+returns c =
+    let w = c .before .weight-of in
+    let x = c .three-entries in
+    let e = at (product c) tt in (
+      e ∙ ap₂ (λ (n : ℕ) (z : ℤ). pos n *ℤ z) (w .ensures) (x .ensures .0),
+      subst (λ (z : ℤ). natAbs z ≤ weight (c .before .before .args .j) * 1610612736) (sym e) (size-mul-le (pos (w .result)) (x .result) (omega (arith, w .ensures)) (x .ensures .1)),
+    )
+
+pub term-of-spec : {M : Type 1} → statement M
+term-of-spec =
+    tie.close (tie.spec weight-of-requires cast-g three-entries-requires mul-result returns)

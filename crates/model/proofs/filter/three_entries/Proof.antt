@@ -1,0 +1,86 @@
+-- `three_entries` is the sum of three products, each at most 536870912. Assumes nothing.
+use mathlib.Core.Path.{_≡_, _∙_, ap}
+use Prim.Native.Nat.{ℕ, _+_}
+use lib.IntN.{ℤ, _+ℤ_, _*ℤ_}
+use mir.Syntax.{w16, w64}
+use mir.Val.{SFits, toZ, ofZ}
+use mir.Facts.{toZ-ofZ}
+use Rattle.ints.proofs.Signed.{Exp, whole, _⊕_, at, fits, sized}
+use Rattle.model.specs.Filter.{entry, three}
+use borrow.Author.Needs.{needs}
+use Rattle.model.proofs.filter.three_entries.Statement.{statement}
+use Rattle.model.proofs.filter.three_entries.Tie as tie
+
+times-entry-requires : tie.Need-times-entry-requires
+times-entry-requires c κs = search needs
+
+add-times-entry : tie.Need-add-times-entry
+add-times-entry c = search needs
+
+times-entry-requires-2 : tie.Need-times-entry-requires-2
+times-entry-requires-2 c κs = search needs
+
+add-times-entry-2 : tie.Need-add-times-entry-2
+add-times-entry-2 c = search needs
+
+times-entry-requires-3 : tie.Need-times-entry-requires-3
+times-entry-requires-3 c κs = search needs
+
+-- what is known of the three products
+module _ (c : tie.After-times-entry3) where
+  abbrev start : tie.Start
+  start = c .before .before .before .before .before .before
+
+  abbrev a-product : ℤ
+  a-product = c .before .before .before .before .times-entry .result
+
+  abbrev b-product : ℤ
+  b-product = c .before .before .times-entry2 .result
+
+  abbrev c-product : ℤ
+  c-product = c .times-entry3 .result
+
+  abbrev two : Exp w64
+  two = whole a-product 536870912 (c .before .before .before .before .times-entry .ensures .1) ⊕ whole b-product 536870912 (c .before .before .times-entry2 .ensures .1)
+
+  abbrev all : Exp w64
+  all = two ⊕ whole c-product 536870912 (c .times-entry3 .ensures .1)
+
+  -- a product of what is read is one of the phase
+  product-is : (x : ℤ) (n : ℕ) {r : ℤ} → SFits w16 x → r ≡ toZ w16 (ofZ w16 x) *ℤ entry (start .args .table) n → r ≡ x *ℤ entry (start .args .table) n
+  product-is x n f e = e ∙ ap (λ (z : ℤ). z *ℤ entry (start .args .table) n) (toZ-ofZ f)
+
+  is-three : a-product +ℤ b-product +ℤ c-product ≡ three (start .args .table) (start .args .s) (start .args .n)
+  unfolding three
+  is-three =
+      let s = start .args .s in
+      let n = start .args .n in
+      let a-fits : SFits w16 (s .a) = search needs in
+      let b-fits : SFits w16 (s .b) = search needs in
+      let c-fits : SFits w16 (s .c) = search needs in
+      let a-is = product-is (s .a) n a-fits (c .before .before .before .before .times-entry .ensures .0) in
+      let b-is = product-is (s .b) (n + 10) b-fits (c .before .before .times-entry2 .ensures .0) in
+      let c-is = product-is (s .c) (n + 5) c-fits (c .times-entry3 .ensures .0) in
+      λ i. a-is i +ℤ b-is i +ℤ c-is i
+
+add-ab : tie.Need-add-ab
+add-ab c = fits (two c) tt
+
+add-result : tie.Need-add-result
+add-result c = fits (all c) tt
+
+returns : tie.Need-returns
+returns c = (at (all c) tt ∙ is-three c, sized (all c) tt)
+
+pub three-entries-spec : {M : Type 1} → statement M
+three-entries-spec =
+    tie.close
+    (tie.spec
+    times-entry-requires
+    add-times-entry
+    times-entry-requires-2
+    add-times-entry-2
+    times-entry-requires-3
+    add-ab
+    add-result
+    returns)

@@ -1,0 +1,34 @@
+-- `times_entry` is the product: an i16 is at most 32768 and an entry at most 16384. Assumes nothing.
+use Prim.Native.Nat.{_%_}
+use lib.IntN.{pos}
+use lib.ListN.{getD}
+use mir.Syntax.{w16, w64}
+use Rattle.ints.proofs.Signed.{Exp, whole, cast, _⊗_, at, fits, sized}
+use borrow.Author.Needs.{needs}
+use Rattle.model.proofs.filter.times_entry.Statement.{statement}
+use Rattle.model.proofs.filter.times_entry.Tie as tie
+
+module _ (c : tie.Start) where
+  abbrev z : Exp w64
+  z = cast w16 (c .args .x) (c .fits .x)
+
+  abbrev product : Exp w64
+  product = z ⊗ whole (getD (c .args .t2) (c .args .n % 15) (pos 0)) 16384 (c .pre .small (c .args .n % 15))
+
+cast-z : tie.Need-cast-z
+cast-z c = fits (z c) tt
+
+mul-e : tie.Need-mul-e
+mul-e c = search needs
+
+array-copy-out-e : tie.Need-array-copy-out-e
+array-copy-out-e c = search needs
+
+mul-result : tie.Need-mul-result
+mul-result c = fits (product (c .before)) tt
+
+returns : tie.Need-returns
+returns c = (at (product (c .before)) tt, sized (product (c .before)) tt)
+
+pub times-entry-spec : {M : Type 1} → statement M
+times-entry-spec = tie.close (tie.spec cast-z mul-e array-copy-out-e mul-result returns)

@@ -1,0 +1,16 @@
+-- `measure` is the figures at the centre: whole turns of the index change nothing. Assumes nothing.
+use mathlib.Core.Path.{_∙_}
+use Rattle.model.specs.Report.{threePhase}
+use Rattle.model.proofs.Parts.{figures-turn}
+use borrow.Author.Needs.{needs}
+use Rattle.model.proofs.report.measure.Statement.{statement}
+use Rattle.model.proofs.report.measure.Tie as tie
+
+measure-by-requires : tie.Need-measure-by-requires
+measure-by-requires c κs = search needs
+
+returns : tie.Need-returns
+returns c = c .measure-by .ensures ∙ figures-turn threePhase (c .before .args .nominal) (c .before .args .window) (c .before .args .index)
+
+pub measure-spec : {M : Type 1} → statement M
+measure-spec = tie.close (tie.spec measure-by-requires returns)

@@ -1,0 +1,70 @@
+-- `part` is 29 samples of the window: after j turns the first j are copied. Assumes nothing.
+use mathlib.Core.Path.{_≡_, refl, sym, _∙_, ap}
+use Prim.Native.Nat.{ℕ, _-_, _≤_}
+use native.Mathlib.Omega.{arith}
+use lib.Dec.{lit≤}
+use lib.ListN.{length, take, drop, length-set}
+use lib.Seq.{take-all}
+use Rattle.model.proofs.Parts.{copied-more}
+use Rattle.model.proofs.report.part.Statement.{statement}
+use Rattle.model.proofs.report.part.Tie as tie
+
+abbrev Inv-loop : tie.InvT-loop
+Inv-loop from window samples₀ j₀ samples j = (j ≤ 29) × (length samples ≡ 29) × (take j samples ≡ take j (drop from window))
+
+abbrev μ-loop : tie.MeasureT-loop
+μ-loop from window samples₀ j₀ samples j = 29 - j
+
+loop-holds : tie.Need-loop-holds Inv-loop μ-loop
+loop-holds c = (lit≤ tt, refl, refl)
+
+add-i : tie.Need-add-i Inv-loop μ-loop
+add-i c = omega arith
+
+mul-s : tie.Need-mul-s Inv-loop μ-loop
+mul-s c = omega arith
+
+array-copy-out-s : tie.Need-array-copy-out-s Inv-loop μ-loop
+array-copy-out-s c = omega arith
+
+mul-samples : tie.Need-mul-samples Inv-loop μ-loop
+mul-samples c = omega arith
+
+array-set-from-samples : tie.Need-array-set-from-samples Inv-loop μ-loop
+array-set-from-samples c = omega arith
+
+add-j : tie.Need-add-j Inv-loop μ-loop
+add-j c = omega arith
+
+loop-less : tie.Need-loop-less Inv-loop μ-loop
+loop-less c = omega arith
+
+loop-again : tie.Need-loop-again Inv-loop μ-loop
+loop-again c =
+    let a = c .before .before .before .args in
+    let l = c .before .before .loop in
+    (omega arith, length-set (l .samples) (l .j) _ ∙ l .inv .1, copied-more (a .t1) (l .samples) (a .from) (l .j) (omega arith) (omega arith) (l .inv .2))
+
+returns : tie.Need-returns Inv-loop μ-loop
+returns c =
+    let a = c .before .before .args in
+    let l = c .before .loop in
+    let e : l .j ≡ 29 = omega arith in
+    sym (take-all 29 (l .samples) (omega (arith, l .inv .1))) ∙ ap (λ (k : ℕ). take k (l .samples)) (sym e) ∙ l .inv .2 ∙ ap (λ (k : ℕ). take k (drop (a .from) (a .t1))) e
+
+pub part-spec : {M : Type 1} → statement M
+part-spec =
+    tie.close
+    (tie.spec
+    Inv-loop
+    μ-loop
+    loop-holds
+    add-i
+    mul-s
+    array-copy-out-s
+    mul-samples
+    array-set-from-samples
+    add-j
+    loop-less
+    loop-again
+    returns)

@@ -1,0 +1,84 @@
+-- Document 01, "The report".
+use mathlib.Core.Path.{_≡_}
+use mathlib.Core.Bool.{cond, _||_}
+use mathlib.Core.List.{List}
+use Prim.Native.Nat.{ℕ, _+_, _-_, _*_, _/_, _%_, _^_}
+use lib.Dec.{ltb}
+use lib.IntN.{ℤ, pos, _-ℤ_, _*ℤ_}
+use lib.Ieee.{Float, binary64, ofInt, div}
+use Rattle.model.specs.declared.angle.Angle.{Angle}
+use Rattle.model.specs.declared.angle.Phase.{Phase}
+use Rattle.model.specs.declared.filter.Phasor.{Phasor}
+use Rattle.model.specs.declared.filter.Sample.{Sample}
+use Rattle.model.specs.declared.sampling.Nominal.{Nominal}
+use Rattle.model.specs.declared.report.Differences.{Differences}
+use Rattle.model.specs.declared.report.Figures.{Figures}
+use Rattle.model.specs.declared.report.Scale.{Scale}
+use Rattle.model.specs.Sampling.{sampling}
+use Rattle.model.specs.Filter.{positive, windowed}
+use Rattle.model.specs.Angle.{phaseOf}
+
+-- d1 = r - p, modulo 2^32
+unfoldable pub minus : Angle → Angle → ℕ
+minus r p = (r .parts + (2 ^ 32 - p .parts)) % 2 ^ 32
+
+-- d2 = r - 2q + p, modulo 2^32
+unfoldable pub minusTwice : Angle → Angle → Angle → ℕ
+minusTwice p q r = (r .parts + 2 * (2 ^ 32 - q .parts) + p .parts) % 2 ^ 32
+
+-- each read as a signed 32-bit number
+unfoldable pub signed32 : ℕ → ℤ
+signed32 n = cond (ltb n (2 ^ 31)) (pos n) (pos n -ℤ pos (2 ^ 32))
+
+-- If any of the three has no phase, d1 = d2 = 0 and the no-phase mark is 1; else it is 0
+unfoldable pub differences : Phase → Phase → Phase → Differences
+differences p q r =
+    cond (p .none || q .none || r .none)
+    (record { d1 = pos 0; d2 = pos 0; mark = 1 })
+    (record { d1 = signed32 (minus (r .angle) (p .angle)); d2 = signed32 (minusTwice (p .angle) (q .angle) (r .angle)); mark = 0 })
+
+-- a whole number, made a float and divided once
+unfoldable pub over : ℤ → ℕ → Float
+over n by = div binary64 (ofInt binary64 n) (ofInt binary64 (pos by))
+
+-- re and im in peak counts, each divided once by 5529600; no phase is re = im = 0
+abbrev pub threePhase : Scale
+threePhase = record { limit = 1; divisor = 5529600 }
+
+-- the frequency deviation in Hz: d1 × half the sampling, divided once by 4294967296
+abbrev pub deviationOf : Nominal → ℤ → Float
+deviationOf nominal d1 = over (d1 *ℤ pos (sampling nominal / 2)) 4294967296
+
+-- ROCOF in Hz/s: d2 × the square of the sampling, divided once by 4294967296
+abbrev pub rocofOf : Nominal → ℤ → Float
+rocofOf nominal d2 = over (d2 *ℤ pos (sampling nominal * sampling nominal)) 4294967296
+
+-- A report, less its tag: re, im, d1, d2, mark, and four 64-bit floats
+unfoldable pub joined : Scale → Nominal → Phasor → Differences → Figures
+joined scale nominal p d = record {
+  re = p .re;
+  im = p .im;
+  d1 = d .d1;
+  d2 = d .d2;
+  mark = d .mark;
+  «re_peak» = over (p .re) (scale .divisor);
+  «im_peak» = over (p .im) (scale .divisor);
+  deviation = deviationOf nominal (d .d1);
+  rocof = rocofOf nominal (d .d2);
+}
+
+-- the phase at centre i
+unfoldable pub phaseAt : Scale → (ℕ → Sample) → ℕ → Phase
+phaseAt scale x i = phaseOf (scale .limit) (positive x i)
+
+-- the figures at centre i: p, q, r are the phases at centres i-1, i, i+1
+unfoldable pub figuresAt : Scale → Nominal → (ℕ → Sample) → ℕ → Figures
+figuresAt scale nominal x i = joined scale nominal (positive x i) (differences (phaseAt scale x (i - 1)) (phaseAt scale x i) (phaseAt scale x (i + 1)))
+
+-- what `centre_phase` answers of 29 samples, the first of which has this index: their centre is 14 after it
+abbrev pub Phasing : List Sample → ℕ → Phase → Type 0
+Phasing samples index r = r ≡ phaseAt threePhase (windowed samples index) (index + 14)
+
+-- what `measure` answers of 31 samples, the first of which has this index: their centre is 15 after it
+abbrev pub Measuring : List Sample → ℕ → Nominal → Figures → Type 0
+Measuring window index nominal r = r ≡ figuresAt threePhase nominal (windowed window index) (index + 15)

@@ -1,0 +1,13 @@
+-- Document 01, "Sampling and tags": the nominal frequency and its sampling.
+use Prim.Native.Nat.{ℕ, _*_}
+use Rattle.model.specs.declared.sampling.Nominal.{Nominal}
+use Rattle.model.specs.declared.sampling.Nominal.the-variants.{Fifty, Sixty}
+
+-- Nominal frequency is 50 or 60 Hz
+abbrev pub hertz : Nominal → ℕ
+hertz Fifty = 50
+hertz Sixty = 60
+
+-- Sampling is 15 per nominal cycle
+abbrev pub sampling : Nominal → ℕ
+sampling nominal = 15 * hertz nominal

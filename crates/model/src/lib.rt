@@ -1,0 +1,15 @@
+// Three-phase samples into figures, by the class P model of IEEE C37.118.1-2011 Annex C under document 01's whole-number rules.
+mod angle;
+mod filter;
+mod report;
+mod sampling;
+
+pub use angle::Angle;
+pub use angle::Phase;
+pub use filter::Phasor;
+pub use filter::Sample;
+pub use report::Figures;
+pub use report::Scale;
+pub use report::centre_phase;
+pub use report::measure;
+pub use sampling::Nominal;

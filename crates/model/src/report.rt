@@ -1,0 +1,203 @@
+// Document 01, "The report": the figures at a centre, joined from the phases at it and beside it.
+use crate::angle::Angle;
+use crate::angle::Phase;
+use crate::angle::phase_of;
+use crate::filter::Phasor;
+use crate::filter::Sample;
+use crate::filter::positive_sequence;
+use crate::sampling::Nominal;
+ghost use mathlib.Core.Path.{_≡_};
+ghost use Prim.Native.Nat.{_+_, _^_, _≤_, _<_};
+ghost use lib.IntN.{natAbs};
+ghost use lib.ListN.{take, drop};
+ghost use Rattle.model.specs.Report.{minus, minusTwice, signed32, over, deviationOf, rocofOf, differences, joined, figuresAt, Measuring, Phasing};
+ghost use Rattle.model.specs.Filter.{positive, windowed};
+ghost use Rattle.model.specs.Bounds.{Small};
+
+// A report without its tag: whole numbers, and four floats.
+pub struct Figures {
+    pub re: i64,
+    pub im: i64,
+    pub d1: i32,
+    pub d2: i32,
+    pub mark: u8,
+    // re and im in peak counts
+    pub re_peak: f64,
+    pub im_peak: f64,
+    // the frequency deviation in Hz
+    pub deviation: f64,
+    // the rate of change of frequency in Hz/s
+    pub rocof: f64,
+}
+
+// What is measured of the wires: the limit below which there is no phase, and what a peak count is divided by.
+pub struct Scale {
+    pub limit: u32,
+    pub divisor: u32,
+}
+
+const THREE_PHASE: Scale = Scale {
+    limit: 1,
+    divisor: 5529600,
+};
+
+// d1 and d2, and the no-phase mark.
+struct Differences {
+    d1: i32,
+    d2: i32,
+    mark: u8,
+}
+
+// r - p, modulo 2^32.
+fn difference(p: Angle, r: Angle) -> u32
+    ensures { λ d. ⌜ d ≡ minus r p ⌝ }
+{
+    std::num::wrapping_sub_u32(r.parts, p.parts)
+}
+
+// r - 2q + p, modulo 2^32, as (r - q) - (q - p).
+fn second_difference(p: Angle, q: Angle, r: Angle) -> u32
+    ensures { λ d. ⌜ d ≡ minusTwice p q r ⌝ }
+{
+    let later = difference(q, r);
+    let sooner = difference(p, q);
+    std::num::wrapping_sub_u32(later, sooner)
+}
+
+// The 32 bits read as a signed number.
+fn signed(n: u32) -> i32
+    ensures { λ z. ⌜ z ≡ signed32 n ⌝ }
+{
+    if n < 2147483648 {
+        n as i32
+    } else {
+        !(!n as i32)
+    }
+}
+
+// d1 and d2 of the phases at i-1, i and i+1; both 0 and the mark 1 where one of them is none.
+fn differences_of(p: Phase, q: Phase, r: Phase) -> Differences
+    ensures { λ d. ⌜ d ≡ differences p q r ⌝ }
+{
+    if p.none || q.none || r.none {
+        return Differences {
+            d1: 0,
+            d2: 0,
+            mark: 1,
+        };
+    }
+    let before = p.angle;
+    let centre = q.angle;
+    let after = r.angle;
+    let d1 = signed(difference(before, after));
+    let d2 = signed(second_difference(before, centre, after));
+    Differences { d1, d2, mark: 0 }
+}
+
+// A whole number made a float, which loses nothing, and divided once.
+fn divided(n: i64, by: u64) -> f64
+    requires { ⌜ (natAbs n ≤ 2 ^ 53) × (by ≤ 2 ^ 53) ⌝ }
+    ensures { λ f. ⌜ f ≡ over n by ⌝ }
+{
+    let x = n as f64;
+    let y = by as f64;
+    x / y
+}
+
+// The frequency deviation in Hz: d1 times half the sampling, a whole number, divided once.
+fn deviation_of(d1: i32, nominal: Nominal) -> f64
+    ensures { λ f. ⌜ f ≡ deviationOf nominal d1 ⌝ }
+{
+    let half = (nominal.sampling() / 2) as i64;
+    let d = d1 as i64;
+    let n = d * half;
+    divided(n, 4294967296)
+}
+
+// The rate of change of frequency in Hz/s: d2 times the square of the sampling, a whole number, divided once.
+fn rocof_of(d2: i32, nominal: Nominal) -> f64
+    ensures { λ f. ⌜ f ≡ rocofOf nominal d2 ⌝ }
+{
+    let sampling = nominal.sampling();
+    let square = (sampling * sampling) as i64;
+    let d = d2 as i64;
+    let n = d * square;
+    divided(n, 4294967296)
+}
+
+// The figures of a positive sequence and its differences.
+fn join(p: Phasor, d: Differences, nominal: Nominal, scale: Scale) -> Figures
+    requires { ⌜ Small p ⌝ }
+    ensures { λ r. ⌜ r ≡ joined scale nominal p d ⌝ }
+{
+    let divisor = scale.divisor as u64;
+    let re_peak = divided(p.re, divisor);
+    let im_peak = divided(p.im, divisor);
+    let deviation = deviation_of(d.d1, nominal);
+    let rocof = rocof_of(d.d2, nominal);
+    Figures {
+        re: p.re,
+        im: p.im,
+        d1: d.d1,
+        d2: d.d2,
+        mark: d.mark,
+        re_peak,
+        im_peak,
+        deviation,
+        rocof,
+    }
+}
+
+// The 29 samples of a window from a place on.
+fn part(window: [Sample; 31], from: usize) -> [Sample; 29]
+    requires { ⌜ from ≤ 2 ⌝ }
+    ensures { λ r. ⌜ r ≡ take 29 (drop from window) ⌝ }
+{
+    let mut samples = [Sample { a: 0, b: 0, c: 0 }; 29];
+    let mut j = 0;
+    while j < 29 {
+        let i = from + j;
+        let s = window[i];
+        samples[j] = s;
+        j += 1;
+    }
+    samples
+}
+
+// The positive sequence at the centre of the 29 samples from a place on, where n is the index of the window's first sample.
+fn positive_from(window: [Sample; 31], n: usize, from: usize) -> Phasor
+    requires { ⌜ (n < 15) × (from ≤ 2) ⌝ }
+    ensures is { λ r. ⌜ r ≡ positive (windowed window n) (n + from + 14) ⌝ }
+    ensures small { λ r. ⌜ Small r ⌝ }
+{
+    positive_sequence(part(window, from), n + from)
+}
+
+// The figures at the centre of a window, the sixteenth sample, where the first one's index is n.
+fn measure_by(window: [Sample; 31], n: usize, nominal: Nominal, scale: Scale) -> Figures
+    requires { ⌜ n < 15 ⌝ }
+    ensures { λ r. ⌜ r ≡ figuresAt scale nominal (windowed window n) (n + 15) ⌝ }
+{
+    let before = positive_from(window, n, 0);
+    let centre = positive_from(window, n, 1);
+    let after = positive_from(window, n, 2);
+    let limit = scale.limit;
+    let p = phase_of(before, limit);
+    let q = phase_of(centre, limit);
+    let r = phase_of(after, limit);
+    join(centre, differences_of(p, q, r), nominal, scale)
+}
+
+// The phase at the centre of 29 samples, the first of which has this index.
+pub fn centre_phase(samples: [Sample; 29], index: usize) -> Phase
+    ensures { λ r. ⌜ Phasing samples index r ⌝ }
+{
+    phase_of(positive_sequence(samples, index), THREE_PHASE.limit)
+}
+
+// The figures at the centre of 31 samples, the first of which has this index.
+pub fn measure(window: [Sample; 31], index: usize, nominal: Nominal) -> Figures
+    ensures { λ r. ⌜ Measuring window index nominal r ⌝ }
+{
+    measure_by(window, index % 15, nominal, THREE_PHASE)
+}

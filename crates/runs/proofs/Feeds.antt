@@ -1,0 +1,84 @@
+-- The whole-run measurement is a feed's: where a report is due, its figures are those of the whole-run rule over the history's samples, at the same
+-- centre. A run's first sample is index 0, so the history's first sample stands in the run at a place with its own index mod 15. Assumes nothing.
+use mathlib.Core.Path.{_≡_, refl, sym, _∙_, ap}
+use mathlib.Core.Bool.{Bool, true, false, not, cond, _&&_}
+use mathlib.Core.List.{List}
+use Prim.Native.Nat.{ℕ, _+_, _-_, _/_, _%_, _≤_, _<_}
+use native.Mathlib.Omega.{arith}
+use borrow.Author.Tests.{leb-true, le-ltb, eq-eqb}
+use lib.Dec.{leb, eqb, ltb}
+use lib.IntN.{ℤ}
+use lib.ListN.{length, getD}
+use Rattle.ints.proofs.Cases.{when-true}
+use Rattle.model.specs.declared.filter.Sample.{Sample}
+use Rattle.model.specs.declared.report.Figures.{Figures}
+use Rattle.model.specs.Filter.{windowed, noSample}
+use Rattle.model.specs.Report.{figuresAt, threePhase}
+use Rattle.model.proofs.Same.{figures-same}
+use Rattle.feed.specs.Tags.{servedNominal, nominalOf, spacing, socOf, indexOf}
+use Rattle.feed.specs.Answers.{tagged}
+use Rattle.feed.specs.History.{History, nextNumber, isDue, reportAt, answered}
+use Rattle.runs.specs.Runs.{Said, refused, saidFigures, sampleAt, unequal, offCentre, measured}
+
+-- the runs hold the history's samples from place k on, and the history's first sample has k's index mod 15
+pub record Holding (h : History) (a b c : List ℤ) (k : ℕ) : Type 0 where
+  pub index : k % 15 ≡ h .first % 15
+  pub a-length : length a ≡ k + length (h .samples)
+  pub b-length : length b ≡ k + length (h .samples)
+  pub c-length : length c ≡ k + length (h .samples)
+  pub samples : (j : ℕ) → j < length (h .samples) → sampleAt a b c (k + j) ≡ getD (h .samples) j noSample
+
+-- one and the same figures: the feed's report has them, with its tag, and the whole run answers them, without
+pub record SameMeasurement (h : History) (a b c : List ℤ) (k : ℕ) : Type 0 where
+  pub figures : Figures
+  pub of-the-feed : answered h ≡ tagged (socOf (h .nominal) (nextNumber h - 16)) (indexOf (h .nominal) (nextNumber h - 16) / spacing (h .nominal) (h .rate)) figures
+  pub of-the-run : measured a b c (k + length (h .samples) - 16) (h .nominal) ≡ saidFigures figures
+
+and-true : (p q : Bool) → (p && q) ≡ true → p ≡ true
+and-true true q e = refl
+and-true false q e = e
+
+module _ (h : History) (a b c : List ℤ) (k : ℕ) (served : servedNominal (h .nominal) ≡ true) (due : isDue h ≡ true) (runs : Holding h a b c k) where
+  enough : 31 ≤ length (h .samples)
+  unfolding isDue
+  enough = leb-true 31 (length (h .samples)) (and-true _ _ due)
+
+  -- the sample j places after the first of the 31
+  sample : (j : ℕ) → j < 31 → windowed (h .samples) (h .first) (nextNumber h - 16 + j - 15) ≡ sampleAt a b c (k + length (h .samples) - 16 + j - 15)
+  sample j l =
+      let p : nextNumber h - 16 + j - 15 - h .first ≡ length (h .samples) - 31 + j = omega (arith, enough) in
+      let q : k + (length (h .samples) - 31 + j) ≡ k + length (h .samples) - 16 + j - 15 = omega (arith, enough) in
+      ap (λ (m : ℕ). getD (h .samples) m noSample) p ∙ sym (runs .samples (length (h .samples) - 31 + j) (omega (arith, enough))) ∙ ap (sampleAt a b c) q
+
+  turn : (m : ℕ) → 31 ≤ m → (h .first + m - 16) % 15 ≡ (k + m - 16) % 15
+  turn m l =
+      let p : h .first + m - 16 ≡ h .first + (m - 16) = omega arith in
+      let q : k + m - 16 ≡ k + (m - 16) = omega arith in
+      ap (λ (i : ℕ). i % 15) p ∙ shift (h .first) k (m - 16) (sym (runs .index)) ∙ ap (λ (i : ℕ). i % 15) (sym q)
+    where
+      shift : (i j d : ℕ) → i % 15 ≡ j % 15 → (i + d) % 15 ≡ (j + d) % 15
+      shift i j d e = omega arith
+
+  around : figuresAt threePhase (nominalOf (h .nominal)) (windowed (h .samples) (h .first)) (nextNumber h - 16) ≡ figuresAt threePhase (nominalOf (h .nominal)) (sampleAt a b c) (k + length (h .samples) - 16)
+  around =
+      figures-same (windowed (h .samples) (h .first)) (sampleAt a b c) threePhase (nominalOf (h .nominal)) (nextNumber h - 16) (k + length (h .samples) - 16) (omega (arith, enough)) (omega (arith, enough)) (turn (length (h .samples)) enough) sample
+
+  alike : unequal a b c ≡ false
+  unfolding unequal
+  alike = simp (eq-eqb (length a) (length b) (runs .a-length ∙ sym (runs .b-length)), eq-eqb (length b) (length c) (runs .b-length ∙ sym (runs .c-length)))
+
+  centred : offCentre (length a) (k + length (h .samples) - 16) ≡ false
+  unfolding offCentre
+  centred = simp (le-ltb (k + length (h .samples) - 16) 15 (omega (arith, enough)), le-ltb (length a) (k + length (h .samples) - 16 + 16) (omega (arith, enough, runs .a-length)))
+
+  answers : measured a b c (k + length (h .samples) - 16) (h .nominal) ≡ saidFigures (figuresAt threePhase (nominalOf (h .nominal)) (sampleAt a b c) (k + length (h .samples) - 16))
+  unfolding measured
+  answers = λ i. cond (not (served i)) (refused 6) (cond (alike i) (refused 16) (cond (centred i) (refused 17) (saidFigures (figuresAt threePhase (nominalOf (h .nominal)) (sampleAt a b c) (k + length (h .samples) - 16)))))
+
+  pub same-measurement : SameMeasurement h a b c k
+  unfolding answered reportAt
+  same-measurement = record {
+    figures = figuresAt threePhase (nominalOf (h .nominal)) (windowed (h .samples) (h .first)) (nextNumber h - 16);
+    of-the-feed = when-true (isDue h) _ _ due;
+    of-the-run = answers ∙ ap saidFigures (sym around);
+  }

@@ -1,0 +1,86 @@
+// The same measurement over three whole lent runs: document 01, "The report", last paragraph.
+use model::Figures;
+use model::Nominal;
+use model::Sample;
+ghost use mathlib.Core.Path.{_≡_};
+ghost use Prim.Native.Nat.{_+_, _≤_};
+ghost use lib.ListN.{length};
+ghost use Rattle.feed.specs.Tags.{servedNominal, nominalOf};
+ghost use Rattle.runs.specs.Runs.{sampleAt, samplesFrom, unequal, offCentre, Measuring};
+
+// The report without a tag, or a refusal.
+pub enum Measured {
+    Refused(u8),
+    Given(Figures),
+}
+
+// Whether the three runs differ in length.
+fn are_unequal(a: &[i16], b: &[i16], c: &[i16]) -> bool
+    ensures { λ r. ⌜ r ≡ unequal (now (a .entry)) (now (b .entry)) (now (c .entry)) ⌝ }
+{
+    (a.len() != b.len()) | (b.len() != c.len())
+}
+
+// Whether the centre has fewer than 15 samples before or after it in a run.
+fn is_off_centre(a: &[i16], centre: usize) -> bool
+    ensures { λ r. ⌜ r ≡ offCentre (length (now (a .entry))) centre ⌝ }
+{
+    let n = a.len();
+    if centre < 15 {
+        return true;
+    }
+    if n < 16 {
+        return true;
+    }
+    n - 16 < centre
+}
+
+// The 31 samples of three runs from a place on.
+fn window_from(a: &[i16], b: &[i16], c: &[i16], first: usize) -> [Sample; 31]
+    requires { ⌜ (first + 31 ≤ length (now a)) × (first + 31 ≤ length (now b)) × (first + 31 ≤ length (now c)) ⌝ }
+    ensures { λ r. ⌜ r ≡ samplesFrom (sampleAt (now (a .entry)) (now (b .entry)) (now (c .entry))) first 31 ⌝ }
+{
+    let mut window = [Sample { a: 0, b: 0, c: 0 }; 31];
+    let mut j = 0;
+    while j < 31 {
+        let i = first + j;
+        let x = a[i];
+        let y = b[i];
+        let z = c[i];
+        window[j] = Sample { a: x, b: y, c: z };
+        j += 1;
+    }
+    window
+}
+
+fn nominal_of(nominal: u8) -> Nominal
+    ensures { λ r. ⌜ r ≡ nominalOf nominal ⌝ }
+{
+    if nominal == 50 {
+        Nominal::Fifty
+    } else {
+        Nominal::Sixty
+    }
+}
+
+// The figures at a centre of three runs, the first sample being index 0; refused 6, 16, 17.
+pub fn measure(a: &[i16], b: &[i16], c: &[i16], centre: usize, nominal: u8) -> Measured
+    ensures { λ r. ⌜ Measuring (now (a .entry)) (now (b .entry)) (now (c .entry)) centre nominal r ⌝ }
+{
+    let served = feed::served_nominal(nominal);
+    let differ = are_unequal(a, b, c);
+    let off = is_off_centre(a, centre);
+    if !served {
+        return Measured::Refused(6);
+    }
+    if differ {
+        return Measured::Refused(16);
+    }
+    if off {
+        return Measured::Refused(17);
+    }
+    let first = centre - 15;
+    let window = window_from(a, b, c, first);
+    let at = nominal_of(nominal);
+    Measured::Given(model::measure(window, first, at))
+}

@@ -1,0 +1,29 @@
+-- `text::put` meets its contract, by the test for room. Assumes nothing.
+use borrow.Author.Needs.{needs}
+use mathlib.Core.Path.{sym, _∙_}
+use borrow.Author.Tests.{leb-true}
+use Rattle.text.proofs.Writing.{put-done, put-left}
+use Rattle.text.proofs.put.Statement.{statement}
+use Rattle.text.proofs.put.Tie as tie
+
+add-has-room : tie.Need-add-has-room
+add-has-room c = search needs
+
+has-room-requires : tie.Need-has-room-requires
+has-room-requires c κs = search needs
+
+fill-requires : tie.Need-fill-requires
+fill-requires c κs = leb-true _ _ (sym (c .before .before .has-room .ensures) ∙ c .before .if1 .taken)
+
+same-length : tie.Need-same-length
+same-length c = search needs
+
+returns : tie.Need-returns
+returns c = put-done (sym (c .before .before .before .before .before .has-room .ensures) ∙ c .before .before .before .before .if1 .taken) (c .before .before .fill .ensures)
+
+returns-2 : tie.Need-returns-2
+returns-2 c = put-left (sym (c .before .has-room .ensures) ∙ c .if1 .left)
+
+pub put-spec : {M : Type 1} → statement M
+put-spec =
+    tie.close (tie.spec add-has-room has-room-requires fill-requires same-length returns returns-2)
