@@ -12,8 +12,19 @@ use Rattle.feed.specs.Ring.{stored, historyOf}
 use Rattle.bank.specs.declared.Settled.the-variants.{Refused as SettledRefused, Done}
 use Rattle.bank.specs.Slot.{slotAt, feedOf}
 use Rattle.bank.specs.Calls.{settled, cleared, openedAt, pushedAt, closedAt}
+use native.Mathlib.Omega.{arith}
+use Rattle.model.specs.Report.{figuresAt, threePhase}
+use Rattle.feed.specs.Tags.{nominalOf}
+use Rattle.runs.specs.declared.Measured.the-variants.{Refused as MeasuredRefused, Given}
+use Rattle.runs.specs.Runs.{sampleAt, measured, refused as runRefused, said as runSaid}
+use Rattle.verdict.specs.declared.judging.Judged.{Judged}
+use Rattle.verdict.specs.declared.judging.Judged.the-variants.{Refused as JudgedRefused, LeftOut, Told}
+use Rattle.verdict.specs.declared.judging.Verdict.{Verdict}
+use Rattle.verdict.specs.Errors.{errorsOf}
+use Rattle.verdict.specs.Limits.{limitsFor}
+use Rattle.verdict.specs.Judging.{left-out, leftOut, verdictOn, judgement, Answer as Verdicts, told as verdictTold, refused as verdictRefused, said as verdictSaid}
 use Rattle.acceptance.specs.ConditionA.{ConditionA}
-use Rattle.acceptance.proofs.Refusing.{Granted, refuses}
+use Rattle.acceptance.proofs.Refusing.{Granted, answers, refuses}
 
 -- a push can say this, and it is no refusal
 record Grants (s : Said) : Type 0 where
@@ -33,8 +44,18 @@ answered-granted h = go (isDue h)
     go true = tagged-granted _ _ _
     go false = record { answer = Taken; says = refl; no-refusal = tt }
 
+-- judging can say this, and it is no refusal
+record Judges (s : Verdicts) : Type 0 where
+  answer : Judged
+  says : verdictSaid answer ≡ s
+  no-refusal : (n : ℕ) → s ≡ verdictRefused n → ⊥
+
+judged-granted : (out : Bool) (v : Verdict) → Judges (cond out left-out (verdictTold v))
+judged-granted true v = record { answer = LeftOut; says = refl; no-refusal = λ n e. let z : _≡_ {A = ℕ} 0 1 = cc in omega arith }
+judged-granted false v = record { answer = Told v; says = refl; no-refusal = λ n e. let z : _≡_ {A = ℕ} 0 1 = cc in omega arith }
+
 pub condition-a : ConditionA
-unfolding cleared openedAt pushedAt closedAt
+unfolding cleared openedAt pushedAt closedAt judgement measured
 condition-a = record {
   clearing = λ bank. refuses settled SettledRefused (λ n. refl) _ bank _ Done refl tt;
   opening = λ bank slot nominal rate soc. refuses settled SettledRefused (λ n. refl) _ bank _ Done refl tt;
@@ -42,4 +63,10 @@ condition-a = record {
       let g = answered-granted (historyOf (stored (feedOf (slotAt bank slot)) s)) in
       refuses said Refused (λ n. refl) _ bank _ (g .answer) (g .says) (g .no-refusal);
   closing = λ bank slot. refuses settled SettledRefused (λ n. refl) _ bank _ Done refl tt;
+  judging = λ class test m device reference.
+      let g = judged-granted (leftOut test m) (verdictOn (errorsOf device reference) (limitsFor class test)) in
+      answers verdictSaid verdictRefused JudgedRefused (λ n. refl) (λ m n e. cc) _ _ (g .answer) (g .says) (g .no-refusal);
+  measuring = λ a b c centre nominal.
+      let f = figuresAt threePhase (nominalOf nominal) (sampleAt a b c) centre in
+      answers runSaid runRefused MeasuredRefused (λ n. refl) (λ m n e. cc) _ _ (Given f) refl (λ n e. let z : _≡_ {A = ℕ} 0 1 = cc in omega arith);
 }

@@ -7,7 +7,7 @@ use Rattle.refusals.specs.Refusals.{Refusal, judged}
 use Rattle.refusals.proofs.Passing.{pass, stop}
 use Rattle.feed.specs.Answers.{Said, refused, done, taken, takenWith}
 use Rattle.bank.specs.Calls.{Outcome, refusing}
-use Rattle.acceptance.specs.ConditionA.{FirstDue, here, later, Refuses}
+use Rattle.acceptance.specs.ConditionA.{FirstDue, here, later, Answers, Refuses}
 
 module _ {A : Type 0} (refuse : ℕ → A) (grant : A) where
   pub given : {n : ℕ} {rs : List Refusal} → FirstDue n rs → judged rs refuse grant ≡ refuse n
@@ -27,6 +27,28 @@ module _ {A : Type 0} (refuse : ℕ → A) (grant : A) where
       go true e t = met (r .number) (here e)
       go false e (met n f) = met n (later e f)
       go false e (passed p) = passed (pass r rs refuse grant e ∙ p)
+
+-- a call with no bytes to alter: refusals of different numbers differ, and `grant` is none of them
+module _ {A S : Type 0} (saying : A → S) (refused-as : ℕ → S) (refusal : ℕ → A) (refusal-said : (n : ℕ) → saying (refusal n) ≡ refused-as n)
+    (one-number : (m n : ℕ) → refused-as m ≡ refused-as n → m ≡ n) (list : List Refusal) (grant : S) (granted : A) (granted-said : saying granted ≡ grant)
+    (no-refusal : (n : ℕ) → grant ≡ refused-as n → ⊥) where
+  abbrev Admits : A → Type 0
+  Admits r = saying r ≡ judged list refused-as grant
+
+  pub answers : Answers saying refused-as list Admits
+  answers = record {
+    returns = some (through refused-as grant list);
+    meets = λ r n p f. p ∙ given refused-as grant f;
+    no-other = λ r n p e. due n (sym e ∙ p) (through refused-as grant list);
+  }
+    where
+      some : Through refused-as grant list → (r : A) × Admits r
+      some (met n f) = (refusal n, refusal-said n ∙ sym (given refused-as grant f))
+      some (passed q) = (granted, granted-said ∙ sym q)
+
+      due : (n : ℕ) → refused-as n ≡ judged list refused-as grant → Through refused-as grant list → FirstDue n list
+      due n e (met m f) = subst (λ (i : ℕ). FirstDue i list) (one-number m n (sym (e ∙ given refused-as grant f))) f
+      due n e (passed q) = absurd (no-refusal n (sym (e ∙ q)))
 
 -- an answer that is no refusal
 abbrev pub Granted : Said → Type 0
