@@ -1,6 +1,7 @@
 -- The proofs of the statements, and the laws that carry them.
 pub mod ConditionA
 pub mod Within
+pub mod ConditionB
 pub mod ConditionC
 pub mod Figures
 pub mod Refusing

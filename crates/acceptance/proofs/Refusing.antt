@@ -15,11 +15,11 @@ module _ {A : Type 0} (refuse : ℕ → A) (grant : A) where
   given (later {n} {r} {rs} d f) = pass r rs refuse grant d ∙ given f
 
   -- how a list is gone through
-  data Through (rs : List Refusal) : Type 0 where
+  pub data Through (rs : List Refusal) : Type 0 where
     met : (n : ℕ) → FirstDue n rs → Through rs
     passed : judged rs refuse grant ≡ grant → Through rs
 
-  through : (rs : List Refusal) → Through rs
+  pub through : (rs : List Refusal) → Through rs
   through [] = passed refl
   through (r ∷ rs) = go (r .due) refl (through rs)
     where

@@ -4,4 +4,5 @@ pub mod Within
 pub mod Runs
 pub mod Alone
 pub mod ConditionC
+pub mod ConditionB
 pub mod Figures

@@ -1,5 +1,4 @@
--- The whole-run measurement is a feed's: where a report is due, its figures are those of the whole-run rule over the history's samples, at the same
--- centre. A run's first sample is index 0, so the history's first sample stands in the run at a place with its own index mod 15. Assumes nothing.
+-- The whole-run measurement is a feed's: the 31 samples around the centre are the same, and so is the centre's index mod 15. Assumes nothing.
 use mathlib.Core.Path.{_≡_, refl, sym, _∙_, ap}
 use mathlib.Core.Bool.{Bool, true, false, not, cond, _&&_}
 use mathlib.Core.List.{List}
@@ -18,21 +17,8 @@ use Rattle.model.proofs.Same.{figures-same}
 use Rattle.feed.specs.Tags.{servedNominal, nominalOf, spacing, socOf, indexOf}
 use Rattle.feed.specs.Answers.{tagged}
 use Rattle.feed.specs.History.{History, nextNumber, isDue, reportAt, answered}
-use Rattle.runs.specs.Runs.{Said, refused, saidFigures, sampleAt, unequal, offCentre, measured}
-
--- the runs hold the history's samples from place k on, and the history's first sample has k's index mod 15
-pub record Holding (h : History) (a b c : List ℤ) (k : ℕ) : Type 0 where
-  pub index : k % 15 ≡ h .first % 15
-  pub a-length : length a ≡ k + length (h .samples)
-  pub b-length : length b ≡ k + length (h .samples)
-  pub c-length : length c ≡ k + length (h .samples)
-  pub samples : (j : ℕ) → j < length (h .samples) → sampleAt a b c (k + j) ≡ getD (h .samples) j noSample
-
--- one and the same figures: the feed's report has them, with its tag, and the whole run answers them, without
-pub record SameMeasurement (h : History) (a b c : List ℤ) (k : ℕ) : Type 0 where
-  pub figures : Figures
-  pub of-the-feed : answered h ≡ tagged (socOf (h .nominal) (nextNumber h - 16)) (indexOf (h .nominal) (nextNumber h - 16) / spacing (h .nominal) (h .rate)) figures
-  pub of-the-run : measured a b c (k + length (h .samples) - 16) (h .nominal) ≡ saidFigures figures
+use Rattle.runs.specs.Runs.{refused, saidFigures, sampleAt, unequal, offCentre, measured}
+use Rattle.runs.specs.Feeds.{Holding, SameMeasurement}
 
 and-true : (p q : Bool) → (p && q) ≡ true → p ≡ true
 and-true true q e = refl

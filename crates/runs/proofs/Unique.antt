@@ -7,7 +7,7 @@ use Rattle.runs.specs.declared.Measured.{Measured}
 use Rattle.runs.specs.declared.Measured.the-variants.{Refused, Given}
 use Rattle.runs.specs.Runs.{Said, refused, figures, said, Measuring}
 
-abbrev unsaid : Said → Measured
+abbrev pub unsaid : Said → Measured
 unsaid (refused number) = Refused number
 unsaid (figures re im d1 d2 mark rePeak imPeak deviation rocof) =
     Given (record { re = re; im = im; d1 = d1; d2 = d2; mark = mark; «re_peak» = rePeak; «im_peak» = imPeak; deviation = deviation; rocof = rocof })

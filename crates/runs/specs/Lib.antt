@@ -1,2 +1,3 @@
 -- The definitions of `runs`.
 pub mod Runs
+pub mod Feeds

@@ -1,0 +1,78 @@
+-- Condition B holds: a push is a run of one call, and a whole run that is not refused answers the rule's figures.
+use mathlib.Core.Path.{_≡_, refl, sym, ap, _∙_, subst}
+use mathlib.Core.Bool.{Bool, true, false, cond, _&&_}
+use mathlib.Core.List.{List, [], _∷_}
+use Prim.Native.Nat.{ℕ, _+_, _-_, _≤_}
+use native.Mathlib.Omega.{arith}
+use borrow.Author.Tests.{leb-true, eq-eqb, eqb-true, ne-eqb}
+use lib.Dec.{eqb}
+use lib.IntN.{ℤ}
+use lib.ListN.{length, getD}
+use Rattle.ints.proofs.Cases.{when-true, when-false}
+use Rattle.model.specs.declared.report.Figures.{Figures}
+use Rattle.model.specs.Report.{figuresAt, threePhase}
+use Rattle.feed.specs.declared.Answer.{Answer}
+use Rattle.feed.specs.Tags.{nominalOf}
+use Rattle.feed.specs.Answers.{Said, said}
+use Rattle.feed.specs.History.{History, nextNumber, isDue, told}
+use Rattle.feed.specs.Ring.{historyOf}
+use Rattle.bank.specs.Slot.{slotAt, stateOf, feedOf}
+use Rattle.bank.specs.Damage.{isFree, isOpen, damaged}
+use Rattle.bank.specs.Calls.{Pushing}
+use Rattle.runs.specs.declared.Measured.{Measured}
+use Rattle.runs.specs.declared.Measured.the-variants.{Given}
+use Rattle.runs.specs.Runs.{refused, saidFigures, sampleAt, runRefusals, measured, Measuring}
+use Rattle.runs.proofs.Unique.{unsaid}
+use Rattle.runs.proofs.Feeds.{same-measurement}
+use Rattle.acceptance.specs.Runs.{I16, samples, sampleOf, Call, Ran, ends, goes-on, asksOf, answersOf}
+use Rattle.acceptance.specs.Alone.{State, openWith, stepped, startOf, answersAlone}
+use Rattle.acceptance.specs.ConditionB.{ConditionB}
+use Rattle.acceptance.proofs.ConditionC.{condition-c}
+use Rattle.acceptance.proofs.Within.{within-exactly-when}
+use Rattle.acceptance.proofs.Refusing.{given, Through, met, passed, through}
+
+-- an open slot is not free
+not-free : (s : List ℕ) → isOpen s ≡ true → isFree s ≡ false
+not-free s e = ne-eqb (stateOf s) 0 (λ z. omega (arith, z, eqb-true (stateOf s) 1 e))
+
+each-push : (bank after : List ℕ) (slot : ℕ) (a b c : I16) (r : Answer) → length bank ≡ 4096 → slot ≤ 15
+    → damaged (slotAt bank slot) ≡ false → isOpen (slotAt bank slot) ≡ true → Pushing bank slot (sampleOf a b c) r after
+    → said r ≡ (told (historyOf (feedOf (slotAt bank slot))) (sampleOf a b c)) .answer
+unfolding answersOf asksOf answersAlone stepped startOf
+each-push bank after slot a b c r size named sound opened p =
+    let s = slotAt bank slot in
+    let named-so = eq-eqb slot slot refl in
+    let start : startOf s ≡ openWith (historyOf (feedOf s)) = when-false (damaged s) _ _ sound ∙ when-false (isFree s) _ _ (not-free s opened) in
+    let call : Call = record { slot = slot; ask = samples a b c; answer = said r } in
+    let ran : Ran bank (call ∷ []) after = goes-on {c = call} (r, p, refl) ends in
+    let rule = condition-c .as-the-rule-gives bank after _ size ran slot named in
+    ap (λ (answers : List Said). getD answers 0 (said r)) (
+      sym (when-true (eqb slot slot) (said r ∷ []) [] named-so)
+      ∙ rule
+      ∙ (λ i. answersAlone (start i) (cond (named-so i) (samples a b c ∷ []) []))
+    )
+
+each-run : (a b c : List ℤ) (centre nominal : ℕ) (f : Figures) → Measuring a b c centre nominal (Given f) → f ≡ figuresAt threePhase (nominalOf nominal) (sampleAt a b c) centre
+unfolding measured
+each-run a b c centre nominal f p = go (through refused (saidFigures rule) (runRefusals a b c centre nominal))
+  where
+    rule : Figures
+    rule = figuresAt threePhase (nominalOf nominal) (sampleAt a b c) centre
+
+    go : Through refused (saidFigures rule) (runRefusals a b c centre nominal) → f ≡ rule
+    go (met n d) =
+        let e : saidFigures f ≡ refused n = p ∙ given refused (saidFigures rule) d in
+        let z : _≡_ {A = ℕ} 0 1 = cc in
+        absurd (omega arith)
+    go (passed q) = let e : Given f ≡ Given rule = ap unsaid (p ∙ q) in cc
+
+and-true : (p q : Bool) → (p && q) ≡ true → p ≡ true
+and-true true q e = refl
+and-true false q e = e
+
+never-the-first : (h : History) → isDue h ≡ true → h .first + 15 ≤ nextNumber h - 16
+unfolding isDue
+never-the-first h e = let l : 31 ≤ length (h .samples) = leb-true 31 (length (h .samples)) (and-true _ _ e) in omega arith
+
+pub condition-b : ConditionB
+condition-b = record { each-push = each-push; never-the-first = never-the-first; each-run = each-run; same-figures = same-measurement; within = within-exactly-when }
