@@ -47,9 +47,9 @@ each-push bank after slot a b c r size named sound opened p =
     let ran : Ran bank (call ∷ []) after = goes-on {c = call} (r, p, refl) ends in
     let rule = condition-c .as-the-rule-gives bank after _ size ran slot named in
     ap (λ (answers : List Said). getD answers 0 (said r)) (
-      sym (when-true (eqb slot slot) (said r ∷ []) [] named-so)
-      ∙ rule
-      ∙ (λ i. answersAlone (start i) (cond (named-so i) (samples a b c ∷ []) []))
+    sym (when-true (eqb slot slot) (said r ∷ []) [] named-so)
+    ∙ rule
+    ∙ (λ i. answersAlone (start i) (cond (named-so i) (samples a b c ∷ []) []))
     )
 
 each-run : (a b c : List ℤ) (centre nominal : ℕ) (f : Figures) → Measuring a b c centre nominal (Given f) → f ≡ figuresAt threePhase (nominalOf nominal) (sampleAt a b c) centre

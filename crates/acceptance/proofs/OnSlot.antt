@@ -5,7 +5,7 @@ use mathlib.Core.List.{List, [], _∷_}
 use Prim.Native.Nat.{ℕ, _≤_, _<_}
 use lib.ListN.{length}
 use borrow.Author.Tests.{eq-eqb, le-ltb, lt-ltb}
-use Rattle.refusals.specs.Refusals.{Refusal, judged}
+use Rattle.refusals.specs.Refusals.{Refusal, unlessRefused}
 use Rattle.refusals.proofs.Passing.{pass, stop}
 use Rattle.feed.specs.declared.Feed.{Feed}
 use Rattle.feed.specs.Answers.{Said, refused, done}
@@ -49,27 +49,27 @@ slotGrant (samples a b c) s =
 slotGrant closes s = record { answer = done; slot = freeSlot }
 
 unfoldable pub onSlot : Ask → List ℕ → Left
-onSlot ask s = judged (slotRefusals ask s) (leaving s) (slotGrant ask s)
+onSlot ask s = unlessRefused (slotRefusals ask s) (leaving s) (slotGrant ask s)
 
 -- the bank's outcome of what a call left of slot k
 abbrev pub put : List ℕ → ℕ → Left → Outcome
 put bank k l = record { answer = l .answer; bank = withSlot bank k (l .slot) }
 
 put-judged : (bank : List ℕ) (k : ℕ) (rs : List Refusal) (grant : Left)
-    → judged rs (refusing bank) (put bank k grant) ≡ put bank k (judged rs (leaving (slotAt bank k)) grant)
+    → unlessRefused rs (refusing bank) (put bank k grant) ≡ put bank k (unlessRefused rs (leaving (slotAt bank k)) grant)
 put-judged bank k [] grant = refl
 put-judged bank k (r ∷ rs) grant = go (r .due) (put-judged bank k rs grant)
   where
-    go : (b : Bool) → judged rs (refusing bank) (put bank k grant) ≡ put bank k (judged rs (leaving (slotAt bank k)) grant)
-        → cond b (refusing bank (r .number)) (judged rs (refusing bank) (put bank k grant))
-        ≡ put bank k (cond b (leaving (slotAt bank k) (r .number)) (judged rs (leaving (slotAt bank k)) grant))
+    go : (b : Bool) → unlessRefused rs (refusing bank) (put bank k grant) ≡ put bank k (unlessRefused rs (leaving (slotAt bank k)) grant)
+        → cond b (refusing bank (r .number)) (unlessRefused rs (refusing bank) (put bank k grant))
+        ≡ put bank k (cond b (leaving (slotAt bank k) (r .number)) (unlessRefused rs (leaving (slotAt bank k)) grant))
     go true e = ap (λ (l : List ℕ). record { answer = refused (r .number); bank = l }) (sym (put-back bank k))
     go false e = e
 
 -- a call's outcome by its function's definition
 abbrev outcomeOf : ℕ → Ask → List ℕ → Outcome
 outcomeOf slot ask bank =
-    judged (wrongLength bank ∷ noSlot slot ∷ slotRefusals ask (slotAt bank slot)) (refusing bank) (put bank slot (slotGrant ask (slotAt bank slot)))
+    unlessRefused (wrongLength bank ∷ noSlot slot ∷ slotRefusals ask (slotAt bank slot)) (refusing bank) (put bank slot (slotGrant ask (slotAt bank slot)))
 
 said-so : (a : Said) (next : List ℕ) {b : Said} → a ≡ b → _≡_ {A = Outcome} (record { answer = b; bank = next }) (record { answer = a; bank = next })
 said-so a next e = ap (λ (x : Said). record { answer = x; bank = next }) (sym e)
@@ -89,7 +89,7 @@ module _ (slot : ℕ) (ask : Ask) (bank next : List ℕ) (answer : Said) (size :
   grant = slotGrant ask (slotAt bank slot)
 
   -- 1 is passed
-  past-one : record { answer = answer; bank = next } ≡ judged (noSlot slot ∷ rest) (refusing bank) (put bank slot grant)
+  past-one : record { answer = answer; bank = next } ≡ unlessRefused (noSlot slot ∷ rest) (refusing bank) (put bank slot grant)
   past-one =
       promised-is slot ask bank next answer p
       ∙ pass (wrongLength bank) (noSlot slot ∷ rest) (refusing bank) (put bank slot grant) (ap not (eq-eqb (length bank) 4096 size))

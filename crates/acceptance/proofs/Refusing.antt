@@ -1,23 +1,23 @@
--- A call that is judged by a list of refusals refuses as condition A demands: either a first refusal is due and is given, or all are passed.
+-- A call that is unlessRefused by a list of refusals refuses as condition A demands: either a first refusal is due and is given, or all are passed.
 use mathlib.Core.Path.{_≡_, refl, sym, ap, _∙_, subst}
 use mathlib.Core.Bool.{Bool, true, false}
 use mathlib.Core.List.{List, [], _∷_}
 use Prim.Native.Nat.{ℕ}
-use Rattle.refusals.specs.Refusals.{Refusal, judged}
+use Rattle.refusals.specs.Refusals.{Refusal, unlessRefused}
 use Rattle.refusals.proofs.Passing.{pass, stop}
 use Rattle.feed.specs.Answers.{Said, refused, done, taken, takenWith}
 use Rattle.bank.specs.Calls.{Outcome, refusing}
 use Rattle.acceptance.specs.ConditionA.{FirstDue, here, later, Answers, Refuses}
 
 module _ {A : Type 0} (refuse : ℕ → A) (grant : A) where
-  pub given : {n : ℕ} {rs : List Refusal} → FirstDue n rs → judged rs refuse grant ≡ refuse n
+  pub given : {n : ℕ} {rs : List Refusal} → FirstDue n rs → unlessRefused rs refuse grant ≡ refuse n
   given (here {r} {rs} d) = stop r rs refuse grant d
   given (later {n} {r} {rs} d f) = pass r rs refuse grant d ∙ given f
 
   -- how a list is gone through
   pub data Through (rs : List Refusal) : Type 0 where
     met : (n : ℕ) → FirstDue n rs → Through rs
-    passed : judged rs refuse grant ≡ grant → Through rs
+    passed : unlessRefused rs refuse grant ≡ grant → Through rs
 
   pub through : (rs : List Refusal) → Through rs
   through [] = passed refl
@@ -33,7 +33,7 @@ module _ {A S : Type 0} (saying : A → S) (refused-as : ℕ → S) (refusal : �
     (one-number : (m n : ℕ) → refused-as m ≡ refused-as n → m ≡ n) (list : List Refusal) (grant : S) (granted : A) (granted-said : saying granted ≡ grant)
     (no-refusal : (n : ℕ) → grant ≡ refused-as n → ⊥) where
   abbrev Admits : A → Type 0
-  Admits r = saying r ≡ judged list refused-as grant
+  Admits r = saying r ≡ unlessRefused list refused-as grant
 
   pub answers : Answers saying refused-as list Admits
   answers = record {
@@ -46,7 +46,7 @@ module _ {A S : Type 0} (saying : A → S) (refused-as : ℕ → S) (refusal : �
       some (met n f) = (refusal n, refusal-said n ∙ sym (given refused-as grant f))
       some (passed q) = (granted, granted-said ∙ sym q)
 
-      due : (n : ℕ) → refused-as n ≡ judged list refused-as grant → Through refused-as grant list → FirstDue n list
+      due : (n : ℕ) → refused-as n ≡ unlessRefused list refused-as grant → Through refused-as grant list → FirstDue n list
       due n e (met m f) = subst (λ (i : ℕ). FirstDue i list) (one-number m n (sym (e ∙ given refused-as grant f))) f
       due n e (passed q) = absurd (no-refusal n (sym (e ∙ q)))
 
@@ -62,7 +62,7 @@ module _ {A : Type 0} (saying : A → Said) (refusal : ℕ → A) (refusal-said 
     (list : List Refusal) (before : List ℕ) (grant : Outcome) (granted : A) (granted-said : saying granted ≡ grant .answer)
     (no-refusal : Granted (grant .answer)) where
   abbrev outcome : Outcome
-  outcome = judged list (refusing before) grant
+  outcome = unlessRefused list (refusing before) grant
 
   abbrev Promised : A → List ℕ → Type 0
   Promised r after = record { answer = saying r; bank = after } ≡ outcome

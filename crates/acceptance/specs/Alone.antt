@@ -2,7 +2,7 @@
 use mathlib.Core.Bool.{cond}
 use mathlib.Core.List.{List, [], _∷_}
 use Prim.Native.Nat.{ℕ}
-use Rattle.refusals.specs.Refusals.{judged}
+use Rattle.refusals.specs.Refusals.{unlessRefused}
 use Rattle.feed.specs.Tags.{keptRate}
 use Rattle.feed.specs.Answers.{Said, refused, done}
 use Rattle.feed.specs.History.{History, opening, told}
@@ -31,7 +31,7 @@ refusing state number = record { answer = refused number; next = state }
 unfoldable pub stepped : Ask → State → Step
 stepped ask damaged = refusing damaged 3
 stepped (opens nominal rate soc) free =
-    judged (noNominal nominal ∷ noRate nominal rate ∷ []) (refusing free)
+    unlessRefused (noNominal nominal ∷ noRate nominal rate ∷ []) (refusing free)
     (record { answer = done; next = openWith (opening nominal (keptRate nominal rate) soc) })
 stepped (samples a b c) free = refusing free 5
 stepped closes free = refusing free 5

@@ -20,7 +20,7 @@ pub data FirstDue : ℕ → List Refusal → Type 0 where
 
 -- What a call owes that may be refused and has no bytes lent to it that it could alter: `promised` is what its contract says of the answer
 pub record Answers {A S : Type 0} (saying : A → S) (refusing : ℕ → S) (list : List Refusal) (promised : A → Type 0) : Type 0 where
-  -- Every call returns on every input: an answer is promised whatever the input
+  -- Every call returns on every input: some answer is promised whatever the input; that the function ends is part of every contract
   pub returns : (r : A) × promised r
   -- Bad input meets the refusal that document 01 names, in 01's order
   pub meets : (r : A) (n : ℕ) → promised r → FirstDue n list → saying r ≡ refusing n
@@ -29,7 +29,7 @@ pub record Answers {A S : Type 0} (saying : A → S) (refusing : ℕ → S) (lis
 
 -- What a call owes that may be refused and has bytes lent to it: `before` are those bytes, `promised` speaks of the answer and the bytes after
 pub record Refuses {A : Type 0} (saying : A → Said) (list : List Refusal) (before : List ℕ) (promised : A → List ℕ → Type 0) : Type 0 where
-  -- Every call returns on every input: an answer is promised whatever the input
+  -- Every call returns on every input: some answer is promised whatever the input; that the function ends is part of every contract
   pub returns : (r : A) × ((after : List ℕ) × promised r after)
   -- Bad input meets the refusal that document 01 names, in 01's order
   pub meets : (r : A) (after : List ℕ) (n : ℕ) → promised r after → FirstDue n list → saying r ≡ refused n

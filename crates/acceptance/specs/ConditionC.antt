@@ -24,8 +24,8 @@ pub record ConditionC : Type 0 where
   -- and the banks end equal byte for byte
   pub equal-banks : (bank endOne endTwo : List ℕ) (one two : List Call) → TwoRuns bank one endOne two endTwo → endOne ≡ endTwo
   -- calls naming no feed are refused and change nothing
-  pub no-feed : (bank now next : List ℕ) (calls : List Call) (slot : ℕ) (ask : Ask) (answer : Said)
-      → length bank ≡ 4096 → Ran bank calls now → 15 < slot → Promised slot ask now answer next → (answer ≡ refused 2) × (next ≡ now)
+  pub no-feed : (bank between after : List ℕ) (calls : List Call) (slot : ℕ) (ask : Ask) (answer : Said)
+      → length bank ≡ 4096 → Ran bank calls between → 15 < slot → Promised slot ask between answer after → (answer ≡ refused 2) × (after ≡ between)
   -- In each run a feed's reports are those that condition B's rule gives for the samples it has taken since its latest opening,
   -- those held at the start included until it is closed, as if the other fifteen didn't exist
   pub as-the-rule-gives : (bank end : List ℕ) (calls : List Call) → length bank ≡ 4096 → Ran bank calls end

@@ -14,7 +14,10 @@ use Rattle.model.specs.declared.sampling.Nominal.the-variants.{Sixty}
 use Rattle.model.specs.Filter.{positive, noSample}
 use Rattle.model.specs.Angle.{angleOf, phaseOf}
 use Rattle.model.specs.Report.{minus, signed32, deviationOf, threePhase}
-use Rattle.verdict.specs.Judging.{tveWithin}
+use Rattle.verdict.specs.declared.errors.Device.{Device}
+use Rattle.verdict.specs.declared.errors.Reference.{Reference}
+use Rattle.verdict.specs.Errors.{errorsOf}
+use Rattle.verdict.specs.Judging.{verdictOn}
 
 -- a phase as the figures give it
 pub data Given : Type 0 where
@@ -30,8 +33,8 @@ pub data Figure : Type 0 where
   difference : (p r : ℕ) (d1 : ℤ) → Figure
   -- d1 at a nominal frequency: the deviation in whole Hz
   deviation : Nominal → (d1 hz : ℤ) → Figure
-  -- a device's re and im against a reference's, and a limit in percent: whether TVE is within
-  tve : (re im referenceRe referenceIm : ℤ) (percent : ℕ) → Bool → Figure
+  -- a device and a reference, and a limit in percent: whether TVE is within
+  tve : Device → Reference → (percent : ℕ) → Bool → Figure
 
 -- ---- when a figure holds
 
@@ -53,7 +56,7 @@ holds (angle re im given) = isGiven (phaseOf (threePhase .limit) (record { re = 
 holds (impulse s index centre re im) = same (positive (alone s index) centre .re) re && same (positive (alone s index) centre .im) im
 holds (difference p r d1) = same (signed32 (minus (angleOf r) (angleOf p))) d1
 holds (deviation nominal d1 hz) = eqb (toBits binary64 (deviationOf nominal d1)) (toBits binary64 (ofInt binary64 hz))
-holds (tve re im referenceRe referenceIm percent within) = Bool·beq (tveWithin percent re im referenceRe referenceIm) within
+holds (tve device reference percent within) = Bool·beq (verdictOn (errorsOf device reference) (record { tve = percent; fe = 0; rfe = 0 }) .tve) within
 
 abbrev pub allHold : List Figure → Bool
 allHold [] = true
@@ -67,27 +70,34 @@ oneInA = record { a = pos 1; b = pos 0; c = pos 0 }
 abbrev oneInB : Sample
 oneInB = record { a = pos 0; b = pos 1; c = pos 0 }
 
-abbrev less : ℕ → ℤ
-less n = negℤ (pos n)
+abbrev minusOf : ℕ → ℤ
+minusOf n = negℤ (pos n)
+
+abbrev device : ℕ → ℕ → Device
+device re im = record { re = pos re; im = pos im; frequency = pos 0; rocof = pos 0 }
+
+abbrev reference : ℕ → ℕ → Reference
+reference re im = record { re = pos re; im = pos im; frequency = pos 0; rocof = pos 0 }
 
 abbrev pub figures : List Figure
 figures =
     angle (pos 1) (pos 1) (at 536870912)
-    ∷ angle (less 1) (pos 1) (at 1610612736)
-    ∷ angle (less 1) (less 1) (at 2684354560)
-    ∷ angle (pos 1) (less 1) (at 3758096384)
+    ∷ angle (minusOf 1) (pos 1) (at 1610612736)
+    ∷ angle (minusOf 1) (minusOf 1) (at 2684354560)
+    ∷ angle (pos 1) (minusOf 1) (at 3758096384)
     ∷ angle (pos 0) (pos 1) (at 1073741824)
     ∷ angle (pos 0) (pos 0) none
     ∷ impulse oneInA 30 30 (pos 245760) (pos 0)
-    ∷ impulse oneInA 31 30 (pos 209552) (less 93296)
+    ∷ impulse oneInA 31 30 (pos 209552) (minusOf 93296)
     ∷ impulse oneInB 35 30 (pos 163840) (pos 0)
     ∷ difference 4294967290 10 (pos 16)
-    ∷ difference 0 2147483648 (less 2147483648)
-    ∷ deviation Sixty (less 2147483648) (less 225)
-    ∷ tve (pos 10100) (pos 0) (pos 10000) (pos 0) 1 true
-    ∷ tve (pos 10060) (pos 80) (pos 10000) (pos 0) 1 true
-    ∷ tve (pos 10101) (pos 0) (pos 10000) (pos 0) 1 false
-    ∷ tve (pos 10060) (pos 81) (pos 10000) (pos 0) 1 false
+    ∷ difference 0 2147483648 (minusOf 2147483648)
+    ∷ difference 4294967295 2147483647 (minusOf 2147483648)
+    ∷ deviation Sixty (minusOf 2147483648) (minusOf 225)
+    ∷ tve (device 10100 0) (reference 10000 0) 1 true
+    ∷ tve (device 10060 80) (reference 10000 0) 1 true
+    ∷ tve (device 10101 0) (reference 10000 0) 1 false
+    ∷ tve (device 10060 81) (reference 10000 0) 1 false
     ∷ []
 
 -- every figure of the list is what the rules give

@@ -13,7 +13,7 @@ use Rattle.feed.specs.Answers.{Said, said}
 use Rattle.bank.specs.declared.Settled.{Settled}
 use Rattle.bank.specs.Calls.{settled, Opening, Pushing, Closing}
 
--- a signed 16-bit number
+-- a signed 16-bit number, from -32768 to 32767
 pub record I16 : Type 0 where
   pub number : ℤ
   pub range : SFits w16 number

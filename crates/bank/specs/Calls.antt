@@ -6,7 +6,7 @@ use Prim.Native.Nat.{ℕ}
 use lib.Dec.{eqb, ltb}
 use lib.ListN.{length}
 use Rattle.model.specs.declared.filter.Sample.{Sample}
-use Rattle.refusals.specs.Refusals.{Refusal, judged}
+use Rattle.refusals.specs.Refusals.{Refusal, unlessRefused}
 use Rattle.feed.specs.declared.Feed.{Feed}
 use Rattle.feed.specs.declared.Answer.{Answer}
 use Rattle.feed.specs.Tags.{servedNominal, servedRate}
@@ -75,7 +75,7 @@ clearRefusals bank = wrongLength bank ∷ []
 
 -- Clearing zeroes the bank
 unfoldable pub cleared : List ℕ → Outcome
-cleared bank = judged (clearRefusals bank) (refusing bank) (record { answer = done; bank = zeros 4096 })
+cleared bank = unlessRefused (clearRefusals bank) (refusing bank) (record { answer = done; bank = zeros 4096 })
 
 -- open 1, 2, 3, 4, 6, 7
 abbrev pub openRefusals : List ℕ → ℕ → ℕ → ℕ → List Refusal
@@ -85,7 +85,7 @@ openRefusals bank slot nominal rate =
 -- Opening sets state 1 and the feed as it is opened
 unfoldable pub openedAt : List ℕ → ℕ → ℕ → ℕ → ℕ → Outcome
 openedAt bank slot nominal rate soc =
-    judged (openRefusals bank slot nominal rate) (refusing bank)
+    unlessRefused (openRefusals bank slot nominal rate) (refusing bank)
     (record { answer = done; bank = withSlot bank slot (slotOf (opened nominal rate soc)) })
 
 -- push 1, 2, 3, 5, 8
@@ -96,7 +96,7 @@ pushRefusals bank slot = wrongLength bank ∷ noSlot slot ∷ damagedAt bank slo
 unfoldable pub pushedAt : List ℕ → ℕ → Sample → Outcome
 pushedAt bank slot s =
     let next : Feed = stored (feedOf (slotAt bank slot)) s in
-    judged (pushRefusals bank slot) (refusing bank)
+    unlessRefused (pushRefusals bank slot) (refusing bank)
     (record { answer = answered (historyOf next); bank = withSlot bank slot (slotOf next) })
 
 -- close 1, 2, 3, 5
@@ -105,7 +105,7 @@ closeRefusals bank slot = wrongLength bank ∷ noSlot slot ∷ damagedAt bank sl
 
 -- Closing zeroes the slot
 unfoldable pub closedAt : List ℕ → ℕ → Outcome
-closedAt bank slot = judged (closeRefusals bank slot) (refusing bank) (record { answer = done; bank = withSlot bank slot freeSlot })
+closedAt bank slot = unlessRefused (closeRefusals bank slot) (refusing bank) (record { answer = done; bank = withSlot bank slot freeSlot })
 
 -- ---- what the functions promise: the answer, and the bytes of the bank when they end
 

@@ -1,5 +1,5 @@
 -- The report that comes with a sample, told of the head before it, is the one that the history rule gives of the samples then held: where
--- thirty were held the ring read round is the whole history, where fewer were neither gives one. Assumes nothing.
+-- thirty were held the ring read oldestFirst is the whole history, where fewer were neither gives one. Assumes nothing.
 use mathlib.Core.Path.{_≡_, refl, sym, ap, _∙_}
 use mathlib.Core.Bool.{Bool, true, false, cond, _&&_}
 use mathlib.Core.List.{List}
@@ -15,7 +15,7 @@ use Rattle.feed.specs.Tags.{samplingOf, spacing, indexOf}
 use Rattle.feed.specs.Answers.{Said, taken}
 use Rattle.feed.specs.History.{History, nextNumber, isDue, reportAt, answered}
 use Rattle.feed.specs.Places.{samplesOf}
-use Rattle.feed.specs.Ring.{nextOf, turns, nextHead, round, lastOf, historyOf}
+use Rattle.feed.specs.Ring.{nextOf, turns, nextHead, oldestFirst, lastOf, historyOf}
 use Rattle.feed.specs.Newest.{centreNumber, dueWith, reportWith}
 use Rattle.feed.proofs.Sound.{Sound}
 use Rattle.feed.proofs.Standing.{started}
@@ -57,7 +57,7 @@ module _ (h : Head) (s : Sound h) (p : List ℕ) where
   next = record { head = nextHead h; places = p }
 
   abbrev pub window : List Sample
-  window = round (nextHead h .place) (samplesOf 31 p)
+  window = oldestFirst (nextHead h .place) (samplesOf 31 p)
 
   window-length : length window ≡ 31
   window-length =

@@ -1,4 +1,4 @@
--- The last few of a list, and a list read round from a place: a store in the next place drops the oldest and puts the new one last.
+-- The last few of a list, and a list read oldestFirst from a place: a store in the next place drops the oldest and puts the new one last.
 use mathlib.Core.Path.{_≡_, refl, sym, ap, _∙_}
 use mathlib.Core.Bool.{Bool, true, false, cond}
 use mathlib.Core.List.{List, [], _∷_, _++_, append-assoc, append-nil}
@@ -9,7 +9,7 @@ use lib.ListN.{length, take, drop, set, length-append, length-drop, length-set, 
 use lib.Seq.{drop-append-le, drop-drop, drop-set-lt, take-suc-set, take-all}
 use lib.Dec.{eqb}
 use borrow.Author.Tests.{eqb-true}
-use Rattle.feed.specs.Ring.{round, lastOf}
+use Rattle.feed.specs.Ring.{oldestFirst, lastOf}
 
 module _ {S : Type 0} where
   pub length-last : (m : ℕ) (xs : List S) → length (lastOf m xs) ≡ min m (length xs)
@@ -39,19 +39,19 @@ module _ {S : Type 0} where
   pub last-none : (xs : List S) → lastOf 0 xs ≡ []
   last-none xs = drop-of-length-le xs {i = length xs - 0} (omega arith)
 
-  round-suc : (p : ℕ) (l : List S) (x : S) → p < length l → round (suc p) (set l p x) ≡ drop 1 (round p l) ++ (x ∷ [])
+  round-suc : (p : ℕ) (l : List S) (x : S) → p < length l → oldestFirst (suc p) (set l p x) ≡ drop 1 (oldestFirst p l) ++ (x ∷ [])
   round-suc p l x h =
       let d : drop (suc p) (set l p x) ≡ drop 1 (drop p l) =
       drop-set-lt (suc p) l p x (omega arith) ∙ ap (λ (k : ℕ). drop k l) (sym (add-one p)) ∙ sym (drop-drop 1 p l) in
-      let s : drop 1 (round p l) ≡ drop 1 (drop p l) ++ take p l =
+      let s : drop 1 (oldestFirst p l) ≡ drop 1 (drop p l) ++ take p l =
       drop-append-le 1 (drop p l) (take p l) (omega (arith, length-drop p l)) in
       rw (d, take-suc-set l p x h) (sym (append-assoc (drop 1 (drop p l)) (take p l) (x ∷ [])) ∙ ap (λ (r : List S). r ++ (x ∷ [])) (sym s))
 
   pub round-store : (p : ℕ) (l : List S) (x : S) → p ≤ 30 → length l ≡ 31
-      → round (cond (eqb p 30) 0 (p + 1)) (set l p x) ≡ drop 1 (round p l) ++ (x ∷ [])
+      → oldestFirst (cond (eqb p 30) 0 (p + 1)) (set l p x) ≡ drop 1 (oldestFirst p l) ++ (x ∷ [])
   round-store p l x h e = go (eqb p 30) refl ∙ round-suc p l x (omega arith)
     where
-      go : (b : Bool) → eqb p 30 ≡ b → round (cond b 0 (p + 1)) (set l p x) ≡ round (suc p) (set l p x)
+      go : (b : Bool) → eqb p 30 ≡ b → oldestFirst (cond b 0 (p + 1)) (set l p x) ≡ oldestFirst (suc p) (set l p x)
       go true t =
           let n : length (set l p x) ≤ suc p = omega (arith, length-set l p x, eqb-true p 30 t) in
           rw (drop-of-length-le (set l p x) n, take-all (suc p) (set l p x) n) (append-nil _)

@@ -12,7 +12,7 @@ use Rattle.feed.specs.Tags.{servedNominal, servedRate, keptRate}
 use Rattle.feed.specs.Answers.{refused}
 use Rattle.feed.specs.History.{History, nextNumber, opening, grown, answered, Told, told}
 use Rattle.feed.specs.Places.{zeros, samplesOf}
-use Rattle.feed.specs.Ring.{faulty, nextOf, opened, nextHead, stored, round, lastOf, historyOf, endOfTime, Next, pushed}
+use Rattle.feed.specs.Ring.{faulty, nextOf, opened, nextHead, stored, oldestFirst, lastOf, historyOf, endOfTime, Next, pushed}
 use Rattle.feed.proofs.Sound.{Sound, sound}
 use Rattle.feed.proofs.Standing.{started}
 use Rattle.feed.proofs.Samples.{samples-length}
@@ -31,7 +31,7 @@ pub record Keeps (f : Feed) (h : History) : Type 0 where
 
 -- the thirty-one places, the oldest first
 abbrev ringOf : Feed → List Sample
-ringOf f = round (f .head .place) (samplesOf 31 (f .places))
+ringOf f = oldestFirst (f .head .place) (samplesOf 31 (f .places))
 
 module _ (f : Feed) (n : Sound (f .head)) where
   ring-length : length (ringOf f) ≡ 31

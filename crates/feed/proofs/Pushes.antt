@@ -12,7 +12,7 @@ use Rattle.feed.specs.declared.Feed.{Feed}
 use Rattle.feed.specs.Answers.{Said, refused, taken}
 use Rattle.feed.specs.History.{answered}
 use Rattle.feed.specs.Places.{samplesOf, withPlace}
-use Rattle.feed.specs.Ring.{Next, faulty, faultyHead, endOfTime, stored, round, historyOf, pushed}
+use Rattle.feed.specs.Ring.{Next, faulty, faultyHead, endOfTime, stored, oldestFirst, historyOf, pushed}
 use Rattle.feed.specs.Newest.{centreOf, dueWith, reportWith}
 use Rattle.feed.proofs.Sound.{sound}
 use Rattle.feed.proofs.Due.{answer-is}
@@ -44,7 +44,7 @@ module _ (f : Feed) (s : Sample) where
   module _ (e : faulty (f .head) ≡ false) (d : endOfTime (f .head) .due ≡ false) where
     -- the samples that are held then, oldest first
     abbrev pub held-then : List Sample
-    held-then = round (stored f s .head .place) (samplesOf 31 (stored f s .places))
+    held-then = oldestFirst (stored f s .head .place) (samplesOf 31 (stored f s .places))
 
     stored-answer : answered (historyOf (stored f s)) ≡ cond (dueWith (f .head)) (reportWith (f .head) held-then) taken
     unfolding stored
@@ -58,9 +58,9 @@ module _ (f : Feed) (s : Sample) where
         ap (λ (x : Said). record { answer = x; feed = stored f s }) a
         ∙ sym (pass (faultyHead (f .head)) (endOfTime (f .head) ∷ []) refuse grant e ∙ pass (endOfTime (f .head)) [] refuse grant d)
 
-    pub reported : dueWith (f .head) ≡ true → (g : Feed) → g ≡ stored f s → (a : Said) → a ≡ reportWith (f .head) (round (g .head .place) (samplesOf 31 (g .places)))
+    pub reported : dueWith (f .head) ≡ true → (g : Feed) → g ≡ stored f s → (a : Said) → a ≡ reportWith (f .head) (oldestFirst (g .head .place) (samplesOf 31 (g .places)))
         → _≡_ {A = Next} (record { answer = a; feed = g }) (pushed f s)
-    reported t g p a q = (λ i. record { answer = (q ∙ ap (λ (x : Feed). reportWith (f .head) (round (x .head .place) (samplesOf 31 (x .places)))) p) i; feed = p i }) ∙ taken-so true t
+    reported t g p a q = (λ i. record { answer = (q ∙ ap (λ (x : Feed). reportWith (f .head) (oldestFirst (x .head .place) (samplesOf 31 (x .places)))) p) i; feed = p i }) ∙ taken-so true t
 
     pub unreported : dueWith (f .head) ≡ false → (g : Feed) → g ≡ stored f s → _≡_ {A = Next} (record { answer = taken; feed = g }) (pushed f s)
     unreported t g p = (λ i. record { answer = taken; feed = p i }) ∙ taken-so false t

@@ -1,4 +1,4 @@
--- A list of thirty-one read round from a place: element j is the one j places on, modulo 31. Assumes nothing.
+-- A list of thirty-one read oldestFirst from a place: element j is the one j places on, modulo 31. Assumes nothing.
 use mathlib.Core.Path.{_≡_, refl, sym, ap, _∙_}
 use mathlib.Core.Bool.{Bool, true, false, cond}
 use mathlib.Core.List.{List, _++_}
@@ -8,13 +8,13 @@ use lib.Dec.{ltb, eqb}
 use lib.ListN.{length, getD, take, drop, length-append, length-take, length-drop, List·getD-append}
 use lib.Seq.{getD-append-add, getD-take, getD-drop}
 use borrow.Author.Tests.{ltb-true, ltb-false, eqb-true, eqb-false}
-use Rattle.feed.specs.Ring.{round}
+use Rattle.feed.specs.Ring.{oldestFirst}
 
 module _ {S : Type 0} (p : ℕ) (l : List S) where
-  pub length-round : p ≤ length l → length (round p l) ≡ length l
+  pub length-round : p ≤ length l → length (oldestFirst p l) ≡ length l
   length-round h = simp (length-append, length-drop, length-take) (omega arith)
 
-  pub round-at : (j : ℕ) (d : S) → p ≤ 30 → length l ≡ 31 → j < 31 → getD (round p l) j d ≡ getD l ((p + j) % 31) d
+  pub round-at : (j : ℕ) (d : S) → p ≤ 30 → length l ≡ 31 → j < 31 → getD (oldestFirst p l) j d ≡ getD l ((p + j) % 31) d
   round-at j d h e k = go (ltb j (31 - p)) refl
     where
       left : length (drop p l) ≡ 31 - p
@@ -23,7 +23,7 @@ module _ {S : Type 0} (p : ℕ) (l : List S) where
       at : (i : ℕ) → i ≡ (p + j) % 31 → getD l i d ≡ getD l ((p + j) % 31) d
       at i q = ap (λ (n : ℕ). getD l n d) q
 
-      go : (b : Bool) → ltb j (31 - p) ≡ b → getD (round p l) j d ≡ getD l ((p + j) % 31) d
+      go : (b : Bool) → ltb j (31 - p) ≡ b → getD (oldestFirst p l) j d ≡ getD l ((p + j) % 31) d
       go true t =
           let n : j < 31 - p = ltb-true j (31 - p) t in
           List·getD-append (drop p l) (take p l) d j (omega (arith, left)) ∙ getD-drop p l j d ∙ at (p + j) (omega arith)
@@ -31,7 +31,7 @@ module _ {S : Type 0} (p : ℕ) (l : List S) where
           let n : 31 - p ≤ j = ltb-false j (31 - p) t in
           let i : ℕ = j - (31 - p) in
           let q : j ≡ length (drop p l) + i = omega (arith, left) in
-          ap (λ (m : ℕ). getD (round p l) m d) q
+          ap (λ (m : ℕ). getD (oldestFirst p l) m d) q
           ∙ getD-append-add (drop p l) (take p l) i d
           ∙ getD-take p l i d (omega arith)
           ∙ at i (omega arith)

@@ -7,7 +7,7 @@ use lib.ListN.{length}
 use Rattle.model.specs.declared.filter.Sample.{Sample}
 use Rattle.model.specs.Filter.{windowed}
 use Rattle.model.specs.Report.{figuresAt, threePhase}
-use Rattle.refusals.specs.Refusals.{Refusal, judged}
+use Rattle.refusals.specs.Refusals.{Refusal, unlessRefused}
 use Rattle.feed.specs.Tags.{nominalOf, samplingOf, spacing, socOf, indexOf}
 use Rattle.feed.specs.Answers.{Said, refused, taken, tagged}
 
@@ -55,6 +55,6 @@ pub record Told : Type 0 where
 
 unfoldable pub told : History → Sample → Told
 told h s =
-    judged (lastSample (h .nominal) (socOf (h .nominal) (nextNumber h)) (indexOf (h .nominal) (nextNumber h)) ∷ [])
+    unlessRefused (lastSample (h .nominal) (socOf (h .nominal) (nextNumber h)) (indexOf (h .nominal) (nextNumber h)) ∷ [])
     (λ n. record { answer = refused n; history = h })
     (record { answer = answered (grown h s); history = grown h s })

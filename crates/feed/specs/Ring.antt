@@ -6,7 +6,7 @@ use Prim.Native.Nat.{ℕ, _+_, _-_, _*_}
 use lib.Dec.{ltb, eqb}
 use lib.ListN.{length, take, drop}
 use Rattle.model.specs.declared.filter.Sample.{Sample}
-use Rattle.refusals.specs.Refusals.{Refusal, judged}
+use Rattle.refusals.specs.Refusals.{Refusal, unlessRefused}
 use Rattle.feed.specs.declared.Head.{Head}
 use Rattle.feed.specs.declared.Feed.{Feed}
 use Rattle.feed.specs.declared.Pushed.{Pushed}
@@ -66,9 +66,9 @@ nextHead h = record {
 unfoldable pub stored : Feed → Sample → Feed
 stored f s = record { head = nextHead (f .head); places = withPlace (f .places) (f .head .place) s }
 
--- thirty-one samples, from the next place round: the oldest first
-abbrev pub round : {S : Type 0} → ℕ → List S → List S
-round place l = drop place l ++ take place l
+-- thirty-one samples, from the next place oldestFirst: the oldest first
+abbrev pub oldestFirst : {S : Type 0} → ℕ → List S → List S
+oldestFirst place l = drop place l ++ take place l
 
 abbrev pub lastOf : {S : Type 0} → ℕ → List S → List S
 lastOf n l = drop (length l - n) l
@@ -79,7 +79,7 @@ historyOf f = record {
   nominal = f .head .nominal;
   rate = f .head .rate;
   first = nextOf (f .head) - f .head .held;
-  samples = lastOf (f .head .held) (round (f .head .place) (samplesOf 31 (f .places)));
+  samples = lastOf (f .head .held) (oldestFirst (f .head .place) (samplesOf 31 (f .places)));
 }
 
 -- numbers that no feed has are refused as damage, 3; then 8
@@ -96,7 +96,7 @@ pub record Next : Type 0 where
 
 unfoldable pub pushed : Feed → Sample → Next
 pushed f s =
-    judged (faultyHead (f .head) ∷ endOfTime (f .head) ∷ [])
+    unlessRefused (faultyHead (f .head) ∷ endOfTime (f .head) ∷ [])
     (λ n. record { answer = refused n; feed = f })
     (record { answer = answered (historyOf (stored f s)); feed = stored f s })
 

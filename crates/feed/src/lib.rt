@@ -17,7 +17,7 @@ ghost use lib.Dec.{ltb, eqb};
 ghost use Rattle.feed.specs.Tags.{samplingOf, spacing};
 ghost use Rattle.feed.specs.Answers.{saidReport};
 ghost use Rattle.feed.specs.Places.{samplesOf};
-ghost use Rattle.feed.specs.Ring.{unserved, uneven, early, faulty, opened, endOfTime, nextHead, stored, round, Pushing};
+ghost use Rattle.feed.specs.Ring.{unserved, uneven, early, faulty, opened, endOfTime, nextHead, stored, oldestFirst, Pushing};
 ghost use Rattle.feed.specs.Newest.{centreOf, dueWith, reportWith};
 
 // The numbers of a feed: what it is opened with, how many samples it holds, where the next one stands and where it goes.
@@ -270,10 +270,10 @@ impl Feed {
         self
     }
 
-    // Thirty-one samples from the next place round: the oldest first.
+    // Thirty-one samples from the next place oldestFirst: the oldest first.
     fn window(self) -> [Sample; 31]
         requires { ⌜ self .head .place ≤ 30 ⌝ }
-        ensures { λ r. ⌜ r ≡ round (self .head .place) (samplesOf 31 (self .places)) ⌝ }
+        ensures { λ r. ⌜ r ≡ oldestFirst (self .head .place) (samplesOf 31 (self .places)) ⌝ }
     {
         let places = self.places;
         let mut window = [Sample { a: 0, b: 0, c: 0 }; 31];

@@ -8,7 +8,7 @@ pub record Refusal : Type 0 where
   pub number : ℕ
   pub due : Bool
 
--- the first refusal of the list that is due is given; where none is, the call is done
-abbrev pub judged : {A : Type 0} → List Refusal → (ℕ → A) → A → A
-judged [] refuse grant = grant
-judged (r ∷ rs) refuse grant = cond (r .due) (refuse (r .number)) (judged rs refuse grant)
+-- the first refusal of the list that is due is given; where none is, the call is granted
+abbrev pub unlessRefused : {A : Type 0} → List Refusal → (ℕ → A) → A → A
+unlessRefused [] refuse grant = grant
+unlessRefused (r ∷ rs) refuse grant = cond (r .due) (refuse (r .number)) (unlessRefused rs refuse grant)

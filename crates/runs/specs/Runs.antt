@@ -10,7 +10,7 @@ use lib.Ieee.{Float}
 use Rattle.model.specs.declared.filter.Sample.{Sample}
 use Rattle.model.specs.declared.report.Figures.{Figures}
 use Rattle.model.specs.Report.{figuresAt, threePhase}
-use Rattle.refusals.specs.Refusals.{Refusal, judged}
+use Rattle.refusals.specs.Refusals.{Refusal, unlessRefused}
 use Rattle.feed.specs.Tags.{servedNominal, nominalOf}
 use Rattle.runs.specs.declared.Measured.{Measured}
 use Rattle.runs.specs.declared.Measured.the-variants.{Refused, Given}
@@ -63,7 +63,7 @@ runRefusals a b c centre nominal = noNominal nominal ∷ unequalRuns a b c ∷ n
 -- it answers the report without a tag
 unfoldable pub measured : List ℤ → List ℤ → List ℤ → ℕ → ℕ → Said
 measured a b c centre nominal =
-    judged (runRefusals a b c centre nominal) refused
+    unlessRefused (runRefusals a b c centre nominal) refused
     (saidFigures (figuresAt threePhase (nominalOf nominal) (sampleAt a b c) centre))
 
 -- what `measure` promises

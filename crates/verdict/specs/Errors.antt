@@ -11,7 +11,7 @@ squares x y = natAbs x * natAbs x + natAbs y * natAbs y
 
 -- dr² + di², with dr, di the differences of the device's re and im from the reference's
 abbrev pub vectorError : ℤ → ℤ → ℤ → ℤ → ℕ
-vectorError dre dim re im = squares (dre -ℤ re) (dim -ℤ im)
+vectorError deviceRe deviceIm re im = squares (deviceRe -ℤ re) (deviceIm -ℤ im)
 
 -- re² + im² of the reference
 abbrev pub magnitude : ℤ → ℤ → ℕ
@@ -39,7 +39,7 @@ errorsOf device reference =
       rocof = rocofError (device .rocof) (reference .rocof);
     }
 
--- small enough that no product of the comparison leaves 64 bits
+-- Not part of any promise: small enough that no product of the comparison leaves 64 bits
 pub record Small (e : Errors) : Type 0 where
   pub vector-in : e .vector ≤ 2 ^ 41
   pub magnitude-in : e .magnitude ≤ 2 ^ 41

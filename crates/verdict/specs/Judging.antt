@@ -6,9 +6,9 @@ use Prim.Native.Nat.{ℕ, _*_}
 use lib.Dec.{ltb, leb, eqb}
 use lib.IntN.{ℤ, pos, natAbs}
 use lib.Signed.{leZ}
-use Rattle.verdict.specs.Errors.{vectorError, magnitude, errorsOf}
+use Rattle.verdict.specs.Errors.{errorsOf}
 use Rattle.verdict.specs.Limits.{limitsFor}
-use Rattle.refusals.specs.Refusals.{Refusal, judged}
+use Rattle.refusals.specs.Refusals.{Refusal, unlessRefused}
 use Rattle.verdict.specs.declared.errors.Device.{Device}
 use Rattle.verdict.specs.declared.errors.Reference.{Reference}
 use Rattle.verdict.specs.declared.errors.Errors.{Errors}
@@ -20,10 +20,6 @@ use Rattle.verdict.specs.declared.judging.Judged.the-variants.{Refused, 
 -- with limit p percent, TVE is within exactly when (dr² + di²)·10000 ≤ p²·(re² + im²)
 abbrev pub vectorWithin : ℕ → ℕ → ℕ → Bool
 vectorWithin p error size = leb (error * 10000) (p * p * size)
-
--- the same of a device's re and im and the reference's
-abbrev pub tveWithin : ℕ → ℤ → ℤ → ℤ → ℤ → Bool
-tveWithin p dre dim re im = vectorWithin p (vectorError dre dim re im) (magnitude re im)
 
 -- meeting the limit is within
 unfoldable pub verdictOn : Errors → Limits → Verdict
@@ -70,7 +66,7 @@ told v = verdicts (v .tve) (v .fe) (v .rfe)
 -- judging 10, 11, 9, then "left out", then the errors against the limits for class and test
 unfoldable pub judgement : ℕ → ℕ → ℤ → Device → Reference → Answer
 judgement class test m device reference =
-    judged (judgeRefusals class test reference) refused
+    unlessRefused (judgeRefusals class test reference) refused
     (cond (leftOut test m) left-out
     (told (verdictOn (errorsOf device reference) (limitsFor class test))))
 

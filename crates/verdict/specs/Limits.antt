@@ -17,7 +17,7 @@ table2011 =
     ∷ (three 1 5000 10000 ∷ three 1 5000 100000 ∷ [])
     ∷ []
 
--- by class, then by test; none where the table ends
+-- by class, then by test; limits of 0 where the table ends, which no call reaches that is not refused
 abbrev pub limitsIn : List (List Limits) → ℕ → ℕ → Limits
 limitsIn table class test = getD (getD table class []) test (three 0 0 0)
 

@@ -1,4 +1,4 @@
--- `Feed::window` reads the places round from the next one. The loop's invariant: the place is i on from the first, modulo 31, and the
+-- `Feed::window` reads the places oldestFirst from the next one. The loop's invariant: the place is i on from the first, modulo 31, and the
 -- samples read so far are those of the places passed. Assumes nothing.
 use mathlib.Core.Path.{_≡_, refl, sym, ap, _∙_}
 use Prim.Native.Nat.{ℕ, _+_, _-_, _%_, _<_, _≤_}
@@ -11,7 +11,7 @@ use lib.Seq.{getD-set-same, getD-set-other, ext-getD}
 use Rattle.model.specs.declared.filter.Sample.{Sample}
 use Rattle.model.specs.Filter.{noSample}
 use Rattle.feed.specs.Places.{samplesOf}
-use Rattle.feed.specs.Ring.{round}
+use Rattle.feed.specs.Ring.{oldestFirst}
 use Rattle.feed.proofs.Samples.{samples-length, sample-in}
 use Rattle.feed.proofs.Rounds.{length-round, round-at, place-on}
 use Rattle.feed.proofs.Feed.window.Statement.{statement}
@@ -78,7 +78,7 @@ returns c =
     let v = samplesOf 31 (f .places) in
     let n : length v ≡ 31 = samples-length 31 (f .places) in
     let h : f .head .place ≤ length v = omega arith in
-    ext-getD noSample (l .window) (round (f .head .place) v) (l .inv .1 ∙ sym (length-round (f .head .place) v h ∙ n))
+    ext-getD noSample (l .window) (oldestFirst (f .head .place) v) (l .inv .1 ∙ sym (length-round (f .head .place) v h ∙ n))
     (λ j k. l .inv .3 j (omega arith) ∙ sym (round-at (f .head .place) v j noSample (omega arith) n (omega arith)))
 
 pub window-spec : {M : Type 1} → statement M
