@@ -86,8 +86,8 @@ module _ (h k : History) (a : Alike h k) where
   report-same l =
       rw (← a .nominal-same, ← a .rate-same, ← a .next-same)
       (ap (tagged _ _)
-      (figures-same (windowed (h .samples) (h .first)) (windowed (k .samples) (k .first)) threePhase (nominalOf (h .nominal)) (nextNumber h - 16) (nextNumber h - 16)
-      (omega arith) (omega arith) refl (λ j p. sample-same l (nextNumber h - 16 + j - 15) (omega arith))))
+      (figures-same (windowed (h .samples) (h .first)) (windowed (k .samples) (k .first)) (nextNumber h - 16) (nextNumber h - 16)
+      (omega arith) (omega arith) refl (λ j p. sample-same l (nextNumber h - 16 + j - 15) (omega arith)) threePhase (nominalOf (h .nominal))))
 
   pub answered-same : answered h ≡ answered k
   unfolding answered isDue

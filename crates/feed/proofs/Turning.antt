@@ -25,7 +25,7 @@ module _ (nominal : Nominal) (window : List Sample) where
 
   turned : (m n : ℕ) → m % 15 ≡ n % 15 → figuresAt threePhase nominal (windowed window m) (m + 15) ≡ figuresAt threePhase nominal (windowed window n) (n + 15)
   turned m n e =
-      figures-same (windowed window m) (windowed window n) threePhase nominal (m + 15) (n + 15) (omega arith) (omega arith) (omega arith) (λ j l. by-place m n j)
+      figures-same (windowed window m) (windowed window n) (m + 15) (n + 15) (omega arith) (omega arith) (omega arith) (λ j l. by-place m n j) threePhase nominal
 
   pub by-newest : (h : Head) → Sound h → 30 ≤ h .held
       → figuresAt threePhase nominal (windowed window (h .index)) (h .index + 15) ≡ figuresAt threePhase nominal (windowed window (nextOf h - 30)) (centreNumber h)

@@ -11,4 +11,5 @@ pub mod Silence
 pub mod Turns
 pub mod Marks
 pub mod Samplings
-pub mod Parts
+pub mod Windows
+pub mod Copying

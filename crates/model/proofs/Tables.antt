@@ -15,7 +15,7 @@ use Rattle.ints.proofs.Every.{every, each, none, none-is}
 use Rattle.ints.proofs.Ring.{mul-add}
 use Rattle.model.specs.Bounds.{Tabled}
 use Rattle.model.specs.Filter.{cosines, sines, entry, three}
-use Rattle.model.proofs.Same.{on}
+use Rattle.model.proofs.Same.{later-same}
 
 -- ---- no entry is larger than 16384
 abbrev all-small : List ℤ → Bool
@@ -61,7 +61,9 @@ five-apart table t n = turned ∙ none-is (trio table (n % 15)) (each 15 (λ k. 
     turned : trio table n ≡ trio table (n % 15)
     turned =
         let e : n % 15 ≡ n % 15 % 15 = omega arith in
-        λ i. getD table (e i) (pos 0) +ℤ getD table (on n (n % 15) 10 e i) (pos 0) +ℤ getD table (on n (n % 15) 5 e i) (pos 0)
+        let f = later-same n (n % 15) 10 e in
+        let g = later-same n (n % 15) 5 e in
+        λ i. getD table (e i) (pos 0) +ℤ getD table (f i) (pos 0) +ℤ getD table (g i) (pos 0)
 
 -- three entries five apart add to 0
 pub cos-five-apart : (n : ℕ) → entry cosines n +ℤ entry cosines (n + 10) +ℤ entry cosines (n + 5) ≡ pos 0

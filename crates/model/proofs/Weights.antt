@@ -1,11 +1,27 @@
 -- The weights of the first terms: the 29 weights add to 225, and no more weigh as much. Assumes nothing.
-use mathlib.Core.Path.{_≡_, refl, ap}
-use Prim.Native.Nat.{ℕ, zero, suc, _+_, _*_, _≤_}
+use mathlib.Core.Path.{_≡_, refl, ap, _∙_}
+use mathlib.Core.Bool.{Bool, cond}
+use Prim.Native.Nat.{ℕ, zero, suc, _+_, _*_, _-_, _≤_, _<_}
 use native.Mathlib.Omega.{arith}
 use native.Mathlib.Numerals.{add-one}
-use lib.IntN.{ℤ, _+ℤ_}
+use native.Mathlib.Decide.{decLt}
+use borrow.Author.Tests.{lt-ltb, le-ltb}
+use lib.IntN.{ℤ, pos, negsuc, natAbs, _+ℤ_}
 use Rattle.ints.specs.Whole.{sum}
 use Rattle.model.specs.Filter.{weight}
+
+-- up to the centre the weight is one more than the place, after it one less at each
+pub weight-before : (j : ℕ) → j < 15 → weight j ≡ j + 1
+unfolding weight
+weight-before j h =
+    elim (decLt j 14) [
+      | yes l ↦ ap (λ (t : Bool). 15 - natAbs (cond t (negsuc (14 - suc j)) (pos (j - 14)))) (lt-ltb j 14 l) ∙ omega arith
+      | no l ↦ ap (λ (t : Bool). 15 - natAbs (cond t (negsuc (14 - suc j)) (pos (j - 14)))) (le-ltb j 14 (omega arith)) ∙ omega arith
+    ]
+
+pub weight-after : (j : ℕ) → 15 ≤ j → weight j ≡ 29 - j
+unfolding weight
+weight-after j h = ap (λ (t : Bool). 15 - natAbs (cond t (negsuc (14 - suc j)) (pos (j - 14)))) (le-ltb j 14 (omega arith)) ∙ omega arith
 
 pub weight-within : (j : ℕ) → weight j ≤ 15
 unfolding weight

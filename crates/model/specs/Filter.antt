@@ -2,14 +2,14 @@
 use mathlib.Core.List.{List, [], _∷_, _++_, map, reverse}
 use Prim.Native.Nat.{ℕ, _+_, _-_, _%_}
 use lib.ListN.{getD, drop}
-use lib.IntN.{ℤ, pos, negℤ, _+ℤ_, _*ℤ_}
+use lib.IntN.{ℤ, pos, negℤ, natAbs, _+ℤ_, _-ℤ_, _*ℤ_}
 use Rattle.ints.specs.Whole.{sum}
 use Rattle.model.specs.declared.filter.Sample.{Sample}
 use Rattle.model.specs.declared.filter.Phasor.{Phasor}
 
--- Weight of offset k, from -14 to 14, is 15 - |k|; here k = j - 14, and |k| is one of the two differences
+-- Weight of offset k, from -14 to 14, is 15 - |k|; here k = j - 14
 unfoldable pub weight : ℕ → ℕ
-weight j = 15 - ((14 - j) + (j - 14))
+weight j = 15 - natAbs (pos j -ℤ pos 14)
 
 -- Tables, entry n = round(16384 × cos or sin of 2πn/15), for n from 0 to 7
 abbrev pub firstCosines : List ℤ
@@ -30,11 +30,11 @@ sines = firstSines ++ map negℤ (reverse (drop 1 firstSines))
 abbrev pub entry : List ℤ → ℕ → ℤ
 entry table n = getD table (n % 15) (pos 0)
 
--- a·cos n + b·cos(n-5) + c·cos(n-10), or the same with sin: mod 15, n - 5 is n + 10 and n - 10 is n + 5
+-- a·cos n + b·cos(n-5) + c·cos(n-10), or the same with sin: mod 15, n - 5 is n + (15 - 5)
 unfoldable pub three : List ℤ → Sample → ℕ → ℤ
-three table s n = s .a *ℤ entry table n +ℤ s .b *ℤ entry table (n + 10) +ℤ s .c *ℤ entry table (n + 5)
+three table s n = s .a *ℤ entry table n +ℤ s .b *ℤ entry table (n + (15 - 5)) +ℤ s .c *ℤ entry table (n + (15 - 10))
 
--- weight × (..), where n = i + k
+-- weight × (..), where n = i + k; a centre is 14 or more
 unfoldable pub term : List ℤ → (ℕ → Sample) → ℕ → ℕ → ℤ
 term table x i j = pos (weight j) *ℤ three table (x (i + j - 14)) (i + j - 14)
 

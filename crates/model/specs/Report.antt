@@ -71,7 +71,7 @@ joined scale nominal p d = record {
 unfoldable pub phaseAt : Scale → (ℕ → Sample) → ℕ → Phase
 phaseAt scale x i = phaseOf (scale .limit) (positive x i)
 
--- the figures at centre i: p, q, r are the phases at centres i-1, i, i+1
+-- the figures at centre i, 15 or more: p, q, r are the phases at centres i-1, i, i+1
 unfoldable pub figuresAt : Scale → Nominal → (ℕ → Sample) → ℕ → Figures
 figuresAt scale nominal x i = joined scale nominal (positive x i) (differences (phaseAt scale x (i - 1)) (phaseAt scale x i) (phaseAt scale x (i + 1)))
 

@@ -9,5 +9,8 @@ hertz Fifty = 50
 hertz Sixty = 60
 
 -- Sampling is 15 per nominal cycle
+abbrev pub samplingOf : ℕ → ℕ
+samplingOf hz = 15 * hz
+
 abbrev pub sampling : Nominal → ℕ
-sampling nominal = 15 * hertz nominal
+sampling nominal = samplingOf (hertz nominal)

@@ -204,7 +204,7 @@ fn is_silent(p: Phasor, limit: u32) -> bool
     is_below(p.re, limit) && is_below(p.im, limit)
 }
 
-// The phase of a positive sequence, where no phase is what both parts are below the limit.
+// The phase of a positive sequence; there is none where both parts are below the limit.
 pub(crate) fn phase_of(p: Phasor, limit: u32) -> Phase
     requires { ⌜ Small p ⌝ }
     ensures { λ r. ⌜ r ≡ phaseOf limit p ⌝ }

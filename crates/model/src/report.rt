@@ -30,7 +30,7 @@ pub struct Figures {
     pub rocof: f64,
 }
 
-// What is measured of the wires: the limit below which there is no phase, and what a peak count is divided by.
+// The limit below which re and im have no phase, and the number that each is divided by to give peak counts.
 pub struct Scale {
     pub limit: u32,
     pub divisor: u32,

@@ -47,7 +47,7 @@ module _ (h : History) (a b c : List ℤ) (k : ℕ) (served : servedNominal (h .
 
   around : figuresAt threePhase (nominalOf (h .nominal)) (windowed (h .samples) (h .first)) (nextNumber h - 16) ≡ figuresAt threePhase (nominalOf (h .nominal)) (sampleAt a b c) (k + length (h .samples) - 16)
   around =
-      figures-same (windowed (h .samples) (h .first)) (sampleAt a b c) threePhase (nominalOf (h .nominal)) (nextNumber h - 16) (k + length (h .samples) - 16) (omega (arith, enough)) (omega (arith, enough)) (turn (length (h .samples)) enough) sample
+      figures-same (windowed (h .samples) (h .first)) (sampleAt a b c) (nextNumber h - 16) (k + length (h .samples) - 16) (omega (arith, enough)) (omega (arith, enough)) (turn (length (h .samples)) enough) sample threePhase (nominalOf (h .nominal))
 
   alike : unequal a b c ≡ false
   unfolding unequal

@@ -35,7 +35,7 @@ pub window-figures : (nominal : Nominal) (x : ℕ → Sample) (centre : ℕ) →
     → figuresAt threePhase nominal (windowed (samplesFrom x (centre - 15) 31) (centre - 15)) (centre - 15 + 15) ≡ figuresAt threePhase nominal x centre
 window-figures nominal x centre h =
     let e : centre - 15 + 15 ≡ centre = omega arith in
-    figures-same (windowed (samplesFrom x (centre - 15) 31) (centre - 15)) x threePhase nominal (centre - 15 + 15) centre (omega arith) h (ap (λ (n : ℕ). n % 15) e) around
+    figures-same (windowed (samplesFrom x (centre - 15) 31) (centre - 15)) x (centre - 15 + 15) centre (omega arith) h (ap (λ (n : ℕ). n % 15) e) around threePhase nominal
   where
     around : (j : ℕ) → j < 31 → windowed (samplesFrom x (centre - 15) 31) (centre - 15) (centre - 15 + 15 + j - 15) ≡ x (centre + j - 15)
     around j l =

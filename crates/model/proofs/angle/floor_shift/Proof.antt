@@ -21,7 +21,8 @@ returns : tie.Need-returns
 returns c =
     let z = c .args .z in
     let m = 2 ^ c .args .i in
-    ap (λ (y : ℤ). toZ w64 (ofZ w64 (shrZ y m))) (toZ-ofZ (c .fits .z)) ∙ toZ-ofZ {w = w64} {z = shrZ z m} (record { sfits = lt-of-le-of-lt (mag-shr z m) (c .fits .z .sfits) })
+    ap (λ (y : ℤ). toZ w64 (ofZ w64 (shrZ y m))) (toZ-ofZ (c .fits .z))
+    ∙ toZ-ofZ {w = w64} {z = shrZ z m} (record { sfits = lt-of-le-of-lt (mag-shr z m) (c .fits .z .sfits) })
 
 pub floor-shift-spec : {M : Type 1} → statement M
 floor-shift-spec = tie.close (tie.spec cast-result shr-result returns)

@@ -7,7 +7,7 @@ use lib.Signed.{ltZ}
 use mir.Syntax.{w64}
 use mir.Val.{toZ, ofZ}
 use Rattle.ints.specs.Whole.{floorDiv}
-use Rattle.ints.proofs.Signed.{Exp, whole, shift, _⊕_, _⊖_, at, fits, within}
+use Rattle.ints.proofs.Signed.{Exp, whole, local, shift, _⊕_, _⊖_, at, fits, within}
 use Rattle.model.specs.Angle.{arctan}
 use Rattle.model.specs.declared.angle.Turning.{Turning}
 use Rattle.model.proofs.Stepping.{step-above, step-below, step-still}
@@ -51,10 +51,10 @@ module _ (c : tie.After-floor-shift2) where
   im-floor = c .floor-shift2 .ensures ∙ ap (λ (z : ℤ). floorDiv z (2 ^ i)) (at im tt)
 
   abbrev re-part : Exp w64
-  re-part = whole (c .before .floor-shift .result) (2 ^ 60) (subst (λ (z : ℤ). natAbs z ≤ 2 ^ 60) (sym re-floor) (within (shift re i)))
+  re-part = local (ofZ w64 (c .before .floor-shift .result)) (floorDiv (v .re) (2 ^ i)) (2 ^ 60) (ap (ofZ w64) re-floor) (within (shift re i))
 
   abbrev im-part : Exp w64
-  im-part = whole (c .floor-shift2 .result) (2 ^ 60) (subst (λ (z : ℤ). natAbs z ≤ 2 ^ 60) (sym im-floor) (within (shift im i)))
+  im-part = local (ofZ w64 (c .floor-shift2 .result)) (floorDiv (v .im) (2 ^ i)) (2 ^ 60) (ap (ofZ w64) im-floor) (within (shift im i))
 
   -- a test of what is read is a test of im
   read-im : (P : ℤ → Type 0) → P (toZ w64 (ofZ w64 (v .im))) → P (v .im)
@@ -82,20 +82,23 @@ returns : tie.Need-returns
 unfolding arctan
 returns c =
     let b = c .before .before in
-    (λ j. record { re = (at (re b ⊕ im-part b) tt ∙ ap (λ (z : ℤ). v b .re +ℤ z) (im-floor b)) j; im = (at (im b ⊖ re-part b) tt ∙ ap (λ (z : ℤ). v b .im -ℤ z) (re-floor b)) j; angle = c .more .ensures j })
-    ∙ sym (step-above (i b) (v b) (read-im b (λ (z : ℤ). ltZ (pos 0) z ≡ true) (c .before .if1 .taken)))
+    let up = read-im b (λ (z : ℤ). ltZ (pos 0) z ≡ true) (c .before .if1 .taken) in
+    (λ j. record { re = at (re b ⊕ im-part b) tt j; im = at (im b ⊖ re-part b) tt j; angle = c .more .ensures j }) ∙ sym (step-above (i b) (v b) up)
 
 returns-2 : tie.Need-returns-2
 unfolding arctan
 returns-2 c =
     let b = c .before .before .before in
-    (λ j. record { re = (at (re b ⊖ im-part b) tt ∙ ap (λ (z : ℤ). v b .re -ℤ z) (im-floor b)) j; im = (at (im b ⊕ re-part b) tt ∙ ap (λ (z : ℤ). v b .im +ℤ z) (re-floor b)) j; angle = c .fewer .ensures j })
-    ∙ sym (step-below (i b) (v b) (read-im b (λ (z : ℤ). ltZ (pos 0) z ≡ false) (c .before .before .if1 .left)) (read-im b (λ (z : ℤ). ltZ z (pos 0) ≡ true) (c .before .if2 .taken)))
+    let not-up = read-im b (λ (z : ℤ). ltZ (pos 0) z ≡ false) (c .before .before .if1 .left) in
+    let down = read-im b (λ (z : ℤ). ltZ z (pos 0) ≡ true) (c .before .if2 .taken) in
+    (λ j. record { re = at (re b ⊖ im-part b) tt j; im = at (im b ⊕ re-part b) tt j; angle = c .fewer .ensures j }) ∙ sym (step-below (i b) (v b) not-up down)
 
 returns-3 : tie.Need-returns-3
 returns-3 c =
     let b = c .before .before in
-    sym (step-still (i b) (v b) (read-im b (λ (z : ℤ). ltZ (pos 0) z ≡ false) (c .before .if1 .left)) (read-im b (λ (z : ℤ). ltZ z (pos 0) ≡ false) (c .if2 .left)))
+    let not-up = read-im b (λ (z : ℤ). ltZ (pos 0) z ≡ false) (c .before .if1 .left) in
+    let not-down = read-im b (λ (z : ℤ). ltZ z (pos 0) ≡ false) (c .if2 .left) in
+    sym (step-still (i b) (v b) not-up not-down)
 
 pub one-step-spec : {M : Type 1} → statement M
 one-step-spec =

@@ -23,7 +23,9 @@ times-65536-requires c κs = search needs
 
 -- what is scaled is where the steps begin
 scaled-is : (c : tie.After-times-65536) → Sized (cap 0) (c .times-65536 .result .re) (c .times-65536 .result .im)
-scaled-is c = subst (λ (p : Phasor). Sized (cap 0) (p .re) (p .im)) (sym (c .times-65536 .ensures)) (scaled-sized (c .before .before .before .args .p) (c .before .before .before .pre))
+scaled-is c =
+    let s = c .before .before .before in
+    subst (λ (p : Phasor). Sized (cap 0) (p .re) (p .im)) (sym (c .times-65536 .ensures)) (scaled-sized (s .args .p) (s .pre))
 
 first-quadrant-requires : tie.Need-first-quadrant-requires
 first-quadrant-requires c κs = within-60 0 (lit≤ tt) (scaled-is c)
@@ -35,9 +37,10 @@ returns-2 : tie.Need-returns-2
 unfolding phaseAngle
 returns-2 c =
     let s = c .before .before .before .before .before .before in
-    let e : c .before .steps-left .result ≡ steps 24 (turned (scaled (s .args .p))) = c .before .steps-left .ensures ∙ ap (steps 24) (c .before .before .first-quadrant .ensures ∙ ap turned (c .before .before .before .times-65536 .ensures)) in
-    (λ i. record { angle = (e i) .angle; none = false })
-    ∙ sym (phase-some (s .args .limit) (s .args .p) (sym (c .before .before .before .before .before .is-silent .ensures) ∙ c .before .before .before .before .if1 .left))
+    let b = c .before .before .before in
+    let e = c .before .steps-left .ensures ∙ ap (steps 24) (c .before .before .first-quadrant .ensures ∙ ap turned (b .times-65536 .ensures)) in
+    let heard = sym (b .before .before .is-silent .ensures) ∙ b .before .if1 .left in
+    (λ i. record { angle = (e i) .angle; none = false }) ∙ sym (phase-some (s .args .limit) (s .args .p) heard)
 
 pub phase-of-spec : {M : Type 1} → statement M
 phase-of-spec =

@@ -6,7 +6,7 @@ use mir.Syntax.{w64}
 use Rattle.ints.proofs.Signed.{Exp, whole, neg, at, fits, sized}
 use Rattle.model.specs.Filter.{positive, cosines, sines}
 use Rattle.model.proofs.Tables.{cosines-tabled, sines-tabled}
-use Rattle.model.proofs.Parts.{weighted-turn}
+use Rattle.model.proofs.Windows.{weighted-turn}
 use Rattle.model.proofs.filter.positive_sequence.Statement.{statement}
 use Rattle.model.proofs.filter.positive_sequence.Tie as tie
 
@@ -29,8 +29,10 @@ sub-im c = fits (im c) tt
 returns : tie.Need-returns
 unfolding positive
 returns c =
-    let a = c .before .before .args in (
-      (λ i. record { re = (at (re c) tt ∙ c .before .weighted-sum .ensures .0 ∙ weighted-turn cosines (a .samples) (a .index)) i; im = (at (im c) tt ∙ ap negℤ (c .weighted-sum2 .ensures .0 ∙ weighted-turn sines (a .samples) (a .index))) i }),
+    let a = c .before .before .args in
+    let re-is = c .before .weighted-sum .ensures .0 ∙ weighted-turn (a .samples) (a .index) cosines in
+    let minus-is = c .weighted-sum2 .ensures .0 ∙ weighted-turn (a .samples) (a .index) sines in (
+      (λ i. record { re = (at (re c) tt ∙ re-is) i; im = (at (im c) tt ∙ ap negℤ minus-is) i }),
       record { re-size = sized (re c) tt; im-size = sized (im c) tt },
     )
 

@@ -11,7 +11,7 @@ use Rattle.ints.proofs.Size.{size-add}
 use Rattle.ints.proofs.Signed.{Exp, local, whole, _⊕_, at, fits, sized}
 use Rattle.model.specs.Filter.{term, weight, weighted, windowed}
 use Rattle.model.proofs.Weights.{weights, weights-all, weights-more, weights-within, weight-within, sum-more}
-use Rattle.model.proofs.Parts.{term-at}
+use Rattle.model.proofs.Windows.{term-at}
 use Rattle.model.proofs.filter.weighted_sum.Statement.{statement}
 use Rattle.model.proofs.filter.weighted_sum.Tie as tie
 
@@ -37,7 +37,7 @@ add-term-of : tie.Need-add-term-of Inv-loop μ-loop
 add-term-of c = omega arith
 
 term-of-requires : tie.Need-term-of-requires Inv-loop μ-loop
-term-of-requires c κs = (omega arith, (c .before .loop-test .taken, c .before .before .before .pre .1))
+term-of-requires c κs = (omega arith, (omega arith, c .before .before .before .pre .1))
 
 -- what is known once a term is there
 module _ (c : tie.After-term-of Inv-loop μ-loop) where
@@ -57,7 +57,9 @@ module _ (c : tie.After-term-of Inv-loop μ-loop) where
   x = whole (c .term-of .result) 24159191040 (omega (arith, c .term-of .ensures .1, weight-within j))
 
   abbrev total : Exp w64
-  total = let i = c .before .before .before .loop .inv in local (c .before .before .before .loop .sum) (sum j f) 700616540160 (i .1) (omega (arith, i .2, i .0, weights-within j))
+  total =
+      let l = c .before .before .before .loop in
+      local (l .sum) (sum j f) 700616540160 (l .inv .1) (omega (arith, l .inv .2, l .inv .0, weights-within j))
 
   grown : natAbs (sum j f +ℤ f j) ≤ weights (j + 1) * 1610612736
   grown =

@@ -16,7 +16,12 @@ returns c =
     let p = a .p .none in
     let q = a .q .none in
     let r = a .r .none in
-    sym (differences-none (a .p) (a .q) (a .r) (⊎-elim (λ w. one-of p q r (w .taken)) (⊎-elim (λ w. two-of p q r (w .0 .left) (w .1 .taken)) (λ w. three-of p q r (w .0 .left) (w .1 .left) (w .2 .taken))) (c .if1 .came)))
+    sym
+    (differences-none (a .p) (a .q) (a .r)
+    (⊎-elim
+    (λ w. one-of p q r (w .taken))
+    (⊎-elim (λ w. two-of p q r (w .0 .left) (w .1 .taken)) (λ w. three-of p q r (w .0 .left) (w .1 .left) (w .2 .taken)))
+    (c .if1 .came)))
 
 difference-requires : tie.Need-difference-requires
 difference-requires c κs = search needs
@@ -36,8 +41,10 @@ returns-2 c =
     let a = t .before .before .before .args in
     let f : SFits w32 (c .before .before .signed .result) = search needs in
     let g : SFits w32 (c .signed2 .result) = search needs in
-    (λ i. record { d1 = (toZ-ofZ f ∙ c .before .before .signed .ensures ∙ ap signed32 (c .before .before .before .difference .ensures)) i; d2 = (toZ-ofZ g ∙ c .signed2 .ensures ∙ ap signed32 (c .before .second-difference .ensures)) i; mark = 0 })
-    ∙ sym (differences-some (a .p) (a .q) (a .r) (none-of (a .p .none) (a .q .none) (a .r .none) (t .before .before .if1 .left) (t .before .if2 .left) (t .if3 .left)))
+    let d1-is = toZ-ofZ f ∙ c .before .before .signed .ensures ∙ ap signed32 (c .before .before .before .difference .ensures) in
+    let d2-is = toZ-ofZ g ∙ c .signed2 .ensures ∙ ap signed32 (c .before .second-difference .ensures) in
+    let all = none-of (a .p .none) (a .q .none) (a .r .none) (t .before .before .if1 .left) (t .before .if2 .left) (t .if3 .left) in
+    (λ i. record { d1 = d1-is i; d2 = d2-is i; mark = 0 }) ∙ sym (differences-some (a .p) (a .q) (a .r) all)
 
 pub differences-of-spec : {M : Type 1} → statement M
 differences-of-spec =

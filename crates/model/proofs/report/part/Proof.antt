@@ -1,11 +1,11 @@
 -- `part` is 29 samples of the window: after j turns the first j are copied. Assumes nothing.
-use mathlib.Core.Path.{_≡_, refl, sym, _∙_, ap}
+use mathlib.Core.Path.{_≡_, refl, sym, _∙_, subst}
 use Prim.Native.Nat.{ℕ, _-_, _≤_}
 use native.Mathlib.Omega.{arith}
 use lib.Dec.{lit≤}
 use lib.ListN.{length, take, drop, length-set}
 use lib.Seq.{take-all}
-use Rattle.model.proofs.Parts.{copied-more}
+use Rattle.model.proofs.Copying.{copied-more}
 use Rattle.model.proofs.report.part.Statement.{statement}
 use Rattle.model.proofs.report.part.Tie as tie
 
@@ -42,15 +42,19 @@ loop-less c = omega arith
 loop-again : tie.Need-loop-again Inv-loop μ-loop
 loop-again c =
     let a = c .before .before .before .args in
-    let l = c .before .before .loop in
-    (omega arith, length-set (l .samples) (l .j) _ ∙ l .inv .1, copied-more (a .t1) (l .samples) (a .from) (l .j) (omega arith) (omega arith) (l .inv .2))
+    let l = c .before .before .loop in (
+      omega arith,
+      length-set (l .samples) (l .j) _ ∙ l .inv .1,
+      copied-more (a .t1) (l .samples) (a .from) (l .j) (omega arith) (omega arith) (l .inv .2),
+    )
 
 returns : tie.Need-returns Inv-loop μ-loop
 returns c =
     let a = c .before .before .args in
     let l = c .before .loop in
     let e : l .j ≡ 29 = omega arith in
-    sym (take-all 29 (l .samples) (omega (arith, l .inv .1))) ∙ ap (λ (k : ℕ). take k (l .samples)) (sym e) ∙ l .inv .2 ∙ ap (λ (k : ℕ). take k (drop (a .from) (a .t1))) e
+    sym (take-all 29 (l .samples) (omega (arith, l .inv .1)))
+    ∙ subst (λ (k : ℕ). take k (l .samples) ≡ take k (drop (a .from) (a .t1))) e (l .inv .2)
 
 pub part-spec : {M : Type 1} → statement M
 part-spec =

@@ -4,7 +4,7 @@ use mathlib.Core.List.{List}
 use Prim.Native.Nat.{_+_}
 use Rattle.model.specs.Filter.{positive, windowed}
 use Rattle.model.specs.declared.filter.Sample.{Sample}
-use Rattle.model.proofs.Parts.{part-positive}
+use Rattle.model.proofs.Windows.{part-positive}
 use borrow.Author.Needs.{needs}
 use Rattle.model.proofs.report.positive_from.Statement.{statement}
 use Rattle.model.proofs.report.positive_from.Tie as tie
@@ -22,7 +22,10 @@ returns : tie.Need-returns
 returns c =
     let a = c .before .before .args in
     let k = a .n + a .from in
-    (c .positive-sequence .ensures .0 ∙ ap (λ (l : List Sample). positive (windowed l k) (k + 14)) (c .before .part .ensures) ∙ part-positive (a .window) (a .n) (a .from), c .positive-sequence .ensures .1)
+    let r = c .positive-sequence in (
+      r .ensures .0 ∙ ap (λ (l : List Sample). positive (windowed l k) (k + 14)) (c .before .part .ensures) ∙ part-positive (a .window) (a .n) (a .from),
+      r .ensures .1,
+    )
 
 pub positive-from-spec : {M : Type 1} → statement M
 positive-from-spec =
