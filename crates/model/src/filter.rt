@@ -65,9 +65,9 @@ fn weight_of(j: usize) -> usize
 }
 
 // One phase of a sample times entry n of a table, n taken mod 15.
-fn times_entry(x: i16, table: [i64; 15], n: usize) -> i64
-    requires { ⌜ Tabled table ⌝ }
-    ensures is { λ r. ⌜ r ≡ x *ℤ entry table n ⌝ }
+fn times_entry(x: i16, table: &[i64; 15], n: usize) -> i64
+    requires { ⌜ Tabled (now table) ⌝ }
+    ensures is { λ r. ⌜ r ≡ x *ℤ entry (now (table .entry)) n ⌝ }
     ensures small { λ r. ⌜ natAbs r ≤ 536870912 ⌝ }
 {
     let z = x as i64;
@@ -77,10 +77,10 @@ fn times_entry(x: i16, table: [i64; 15], n: usize) -> i64
 }
 
 // A sample against three entries of a table, five apart: 120 degrees.
-fn three_entries(s: Sample, table: [i64; 15], n: usize) -> i64
+fn three_entries(s: Sample, table: &[i64; 15], n: usize) -> i64
     requires { ⌜ n < 1000 ⌝ }
-    requires { ⌜ Tabled table ⌝ }
-    ensures is { λ r. ⌜ r ≡ three table s n ⌝ }
+    requires { ⌜ Tabled (now table) ⌝ }
+    ensures is { λ r. ⌜ r ≡ three (now (table .entry)) s n ⌝ }
     ensures small { λ r. ⌜ natAbs r ≤ 1610612736 ⌝ }
 {
     let a = times_entry(s.a, table, n);
@@ -91,11 +91,11 @@ fn three_entries(s: Sample, table: [i64; 15], n: usize) -> i64
 }
 
 // One term of the sum: the sample at offset j - 14, whose index is n, times its weight.
-fn term_of(s: Sample, table: [i64; 15], n: usize, j: usize) -> i64
+fn term_of(s: Sample, table: &[i64; 15], n: usize, j: usize) -> i64
     requires { ⌜ n < 1000 ⌝ }
     requires { ⌜ j < 29 ⌝ }
-    requires { ⌜ Tabled table ⌝ }
-    ensures is { λ r. ⌜ r ≡ pos (weight j) *ℤ three table s n ⌝ }
+    requires { ⌜ Tabled (now table) ⌝ }
+    ensures is { λ r. ⌜ r ≡ pos (weight j) *ℤ three (now (table .entry)) s n ⌝ }
     ensures small { λ r. ⌜ natAbs r ≤ weight j * 1610612736 ⌝ }
 {
     let g = weight_of(j) as i64;
@@ -104,10 +104,10 @@ fn term_of(s: Sample, table: [i64; 15], n: usize, j: usize) -> i64
 }
 
 // The weighted sum over 29 samples, the first of which has index n.
-fn weighted_sum(samples: [Sample; 29], table: [i64; 15], n: usize) -> i64
+fn weighted_sum(samples: [Sample; 29], table: &[i64; 15], n: usize) -> i64
     requires { ⌜ n < 15 ⌝ }
-    requires { ⌜ Tabled table ⌝ }
-    ensures is { λ r. ⌜ r ≡ weighted table (windowed samples n) (n + 14) ⌝ }
+    requires { ⌜ Tabled (now table) ⌝ }
+    ensures is { λ r. ⌜ r ≡ weighted (now (table .entry)) (windowed samples n) (n + 14) ⌝ }
     ensures small { λ r. ⌜ natAbs r ≤ 362387865600 ⌝ }
 {
     let mut sum: i64 = 0;
@@ -127,8 +127,10 @@ pub(crate) fn positive_sequence(samples: [Sample; 29], index: usize) -> Phasor
     ensures small { λ r. ⌜ Small r ⌝ }
 {
     let n = index % 15;
-    let re = weighted_sum(samples, COS, n);
-    let minus = weighted_sum(samples, SIN, n);
+    let cosines = COS;
+    let sines = SIN;
+    let re = weighted_sum(samples, &cosines, n);
+    let minus = weighted_sum(samples, &sines, n);
     let im = -minus;
     Phasor { re, im }
 }

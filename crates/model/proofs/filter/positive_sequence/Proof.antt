@@ -18,7 +18,7 @@ weighted-sum-requires-2 c κs = (omega arith, sines-tabled)
 
 module _ (c : tie.After-weighted-sum2) where
   abbrev re : Exp w64
-  re = whole (c .before .weighted-sum .result) 362387865600 (c .before .weighted-sum .ensures .1)
+  re = whole (c .before .before .weighted-sum .result) 362387865600 (c .before .before .weighted-sum .ensures .1)
 
   abbrev im : Exp w64
   im = neg (whole (c .weighted-sum2 .result) 362387865600 (c .weighted-sum2 .ensures .1))
@@ -29,8 +29,8 @@ sub-im c = fits (im c) tt
 returns : tie.Need-returns
 unfolding positive
 returns c =
-    let a = c .before .before .args in
-    let re-is = c .before .weighted-sum .ensures .0 ∙ weighted-turn (a .samples) (a .index) cosines in
+    let a = c .before .before .before .before .args in
+    let re-is = c .before .before .weighted-sum .ensures .0 ∙ weighted-turn (a .samples) (a .index) cosines in
     let minus-is = c .weighted-sum2 .ensures .0 ∙ weighted-turn (a .samples) (a .index) sines in (
       (λ i. record { re = (at (re c) tt ∙ re-is) i; im = (at (im c) tt ∙ ap negℤ minus-is) i }),
       record { re-size = sized (re c) tt; im-size = sized (im c) tt },

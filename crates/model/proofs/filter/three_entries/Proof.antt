@@ -47,10 +47,10 @@ module _ (c : tie.After-times-entry3) where
   all = two ⊕ whole c-product 536870912 (c .times-entry3 .ensures .1)
 
   -- a product of what is read is one of the phase
-  product-is : (x : ℤ) (n : ℕ) {r : ℤ} → SFits w16 x → r ≡ toZ w16 (ofZ w16 x) *ℤ entry (start .args .table) n → r ≡ x *ℤ entry (start .args .table) n
-  product-is x n f e = e ∙ ap (λ (z : ℤ). z *ℤ entry (start .args .table) n) (toZ-ofZ f)
+  product-is : (x : ℤ) (n : ℕ) {r : ℤ} → SFits w16 x → r ≡ toZ w16 (ofZ w16 x) *ℤ entry (start .args .table .now) n → r ≡ x *ℤ entry (start .args .table .now) n
+  product-is x n f e = e ∙ ap (λ (z : ℤ). z *ℤ entry (start .args .table .now) n) (toZ-ofZ f)
 
-  is-three : a-product +ℤ b-product +ℤ c-product ≡ three (start .args .table) (start .args .s) (start .args .n)
+  is-three : a-product +ℤ b-product +ℤ c-product ≡ three (start .args .table .now) (start .args .s) (start .args .n)
   unfolding three
   is-three =
       let s = start .args .s in

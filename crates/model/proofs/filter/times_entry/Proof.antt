@@ -13,7 +13,7 @@ module _ (c : tie.Start) where
   z = cast w16 (c .args .x) (c .fits .x)
 
   abbrev product : Exp w64
-  product = z ⊗ whole (getD (c .args .t2) (c .args .n % 15) (pos 0)) 16384 (c .pre .small (c .args .n % 15))
+  product = z ⊗ whole (getD (c .args .table .now) (c .args .n % 15) (pos 0)) 16384 (c .pre .small (c .args .n % 15))
 
 cast-z : tie.Need-cast-z
 cast-z c = fits (z c) tt
@@ -21,8 +21,8 @@ cast-z c = fits (z c) tt
 mul-e : tie.Need-mul-e
 mul-e c = search needs
 
-array-copy-out-e : tie.Need-array-copy-out-e
-array-copy-out-e c = search needs
+element-copy-out-e : tie.Need-element-copy-out-e
+element-copy-out-e c = search needs
 
 mul-result : tie.Need-mul-result
 mul-result c = fits (product (c .before)) tt
@@ -31,4 +31,4 @@ returns : tie.Need-returns
 returns c = (at (product (c .before)) tt, sized (product (c .before)) tt)
 
 pub times-entry-spec : {M : Type 1} → statement M
-times-entry-spec = tie.close (tie.spec cast-z mul-e array-copy-out-e mul-result returns)
+times-entry-spec = tie.close (tie.spec cast-z mul-e element-copy-out-e mul-result returns)

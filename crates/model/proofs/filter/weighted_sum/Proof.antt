@@ -48,10 +48,10 @@ module _ (c : tie.After-term-of Inv-loop μ-loop) where
   j = c .before .before .before .loop .j
 
   abbrev f : ℕ → ℤ
-  f = term (a .args .table) (windowed (a .args .t1) (a .args .n)) (a .args .n + 14)
+  f = term (a .args .table .now) (windowed (a .args .t1) (a .args .n)) (a .args .n + 14)
 
   term-is : c .term-of .result ≡ f j
-  term-is = c .term-of .ensures .0 ∙ sym (term-at (a .args .table) (a .args .t1) (a .args .n) j)
+  term-is = c .term-of .ensures .0 ∙ sym (term-at (a .args .table .now) (a .args .t1) (a .args .n) j)
 
   abbrev x : Exp w64
   x = whole (c .term-of .result) 24159191040 (omega (arith, c .term-of .ensures .1, weight-within j))
@@ -86,7 +86,7 @@ returns : tie.Need-returns Inv-loop μ-loop
 unfolding weighted
 returns c =
     let a = c .before .before .args in
-    let f = term (a .table) (windowed (a .t1) (a .n)) (a .n + 14) in
+    let f = term (a .table .now) (windowed (a .t1) (a .n)) (a .n + 14) in
     let i = c .before .loop .inv in
     let e : c .before .loop .j ≡ 29 = omega arith in
     let h : natAbs (sum (c .before .loop .j) f) ≤ 362387865600 = omega (arith, i .2, ap weights e ∙ weights-all) in
