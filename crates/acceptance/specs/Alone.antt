@@ -3,13 +3,12 @@ use mathlib.Core.Bool.{cond}
 use mathlib.Core.List.{List, [], _∷_}
 use Prim.Native.Nat.{ℕ}
 use Rattle.refusals.specs.Refusals.{unlessRefused}
-use Rattle.feed.specs.Tags.{keptRate}
+use Rattle.feed.specs.Tags.{noNominal, noRate, keptRate}
 use Rattle.feed.specs.Answers.{Said, refused, done}
 use Rattle.feed.specs.History.{History, opening, told}
 use Rattle.feed.specs.Ring.{historyOf}
 use Rattle.bank.specs.Slot.{feedOf}
 use Rattle.bank.specs.Damage.{isFree, damaged as isDamaged}
-use Rattle.bank.specs.Calls.{noNominal, noRate}
 use Rattle.acceptance.specs.Runs.{Ask, opens, samples, closes, sampleOf}
 
 -- a feed is damaged, free, or open with the samples that it has taken since its latest opening

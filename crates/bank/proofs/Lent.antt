@@ -9,7 +9,7 @@ use borrow.Author.Tests.{eq-eqb, le-ltb}
 use Rattle.feed.specs.Answers.{Said}
 use Rattle.bank.specs.Slot.{slotAt, withSlot}
 use Rattle.bank.specs.Calls.{Outcome}
-use Rattle.bank.specs.Lent.{Lies}
+use Rattle.bank.specs.Inside.{Lies}
 use Rattle.bank.proofs.Slots.{put-back}
 
 -- a refusal that is not due is passed, and one that is due is given

@@ -7,7 +7,9 @@ pub mod Keeping
 pub mod KeptOn
 pub mod Blank
 pub mod Lent
+pub mod Found
 pub mod Stray
 pub mod Laid
 pub mod States
+pub mod Beside
 pub mod Through

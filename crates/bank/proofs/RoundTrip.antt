@@ -1,15 +1,12 @@
--- An open slot whose tail is blank is the slot of the feed that it keeps: part by part. Assumes nothing.
-use mathlib.Core.Path.{_≡_, refl, sym, _∙_, ap}
-use mathlib.Core.Bool.{true}
+-- An open slot with a tail of zeros is the slot of the feed that it keeps: part by part. Assumes nothing.
+use mathlib.Core.Path.{_≡_, refl, sym, _∙_}
 use mathlib.Core.List.{List, [], _∷_}
 use Prim.Native.Nat.{ℕ, zero, suc, _+_, _/_, _%_, _≤_, _<_}
 use native.Mathlib.Omega.{arith}
-use lib.ListN.{length, getD, take, drop, length-drop, take-append-drop}
+use lib.ListN.{length, getD, take, drop, take-append-drop}
 use lib.Seq.{drop-drop, drop-cons}
 use Rattle.feed.specs.Places.{zeros, be16}
 use Rattle.bank.specs.Slot.{be32, stateOf, headOf, headBytes, placesIn, tailIn, tailOf, feedOf, slotOf}
-use Rattle.bank.specs.Damage.{blank}
-use Rattle.bank.proofs.Blank.{blank-zeros}
 
 -- every element is a byte
 abbrev pub Bytes : List ℕ → Type 0
@@ -40,12 +37,8 @@ module _ (s : List ℕ) (size : length s ≡ 256) (bytes : Bytes s) (one : state
       let b9 : m % 256 ≡ getD s 9 0 = omega (arith, bytes 8, bytes 9) in
       rw (b4, b5, b6, b7, b8, b9) (sym (spelt 11 0 s (omega arith) ∙ rw one))
 
-  tail-put : blank (tailIn s) ≡ true → tailIn s ≡ zeros 59
-  unfolding tailIn
-  tail-put e = blank-zeros (drop 197 s) e ∙ ap zeros (length-drop 197 s ∙ omega arith)
-
-  pub slot-back : blank (tailIn s) ≡ true → slotOf (feedOf s) ≡ s
+  pub slot-back : tailIn s ≡ zeros 59 → slotOf (feedOf s) ≡ s
   unfolding slotOf feedOf placesIn tailOf tailIn
-  slot-back e =
-      rw (head-put, ← tail-put e, ← drop-drop 186 11 s, take-append-drop 186 (drop 11 s))
+  slot-back tail =
+      rw (head-put, ← tail, ← drop-drop 186 11 s, take-append-drop 186 (drop 11 s))
       (take-append-drop 11 s)

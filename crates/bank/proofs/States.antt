@@ -3,8 +3,11 @@ use mathlib.Core.Path.{_≡_, refl, ap}
 use mathlib.Core.Bool.{Bool, true, false, not, _||_}
 use mathlib.Core.List.{List}
 use Prim.Native.Nat.{ℕ, _<_}
+use lib.Dec.{ltb}
 use borrow.Author.Tests.{lt-ltb}
-use Rattle.feed.specs.Ring.{faulty}
+use Rattle.feed.specs.declared.Head.{Head}
+use Rattle.model.specs.Sampling.{samplingOf}
+use Rattle.feed.specs.Ring.{unserved, uneven, early, faulty}
 use Rattle.bank.specs.Slot.{stateOf, headOf}
 use Rattle.bank.specs.Damage.{blank, stray, damaged}
 
@@ -34,3 +37,10 @@ module _ (s : List ℕ) where
   pub open-damaged : stateOf s ≡ 1 → damaged s ≡ (faulty (headOf s) || stray s)
   unfolding damaged
   open-damaged e = rw e
+
+-- place over 30
+pub place-over : (h : Head) → 30 < h .place → faulty h ≡ true
+unfolding faulty
+place-over h over =
+    let others = unserved h || not (ltb (h .index) (samplingOf (h .nominal))) || ltb 31 (h .held) in
+    or-so (early h) (or-so (uneven h) (or-either others (lt-ltb 30 (h .place) over)))

@@ -1,14 +1,18 @@
--- The parts of a slot that the code scans are the unfilled places and the tail: cut at the first unfilled place. Assumes nothing.
+-- Stray bytes: the parts of a slot that the code scans are the unfilled places and the tail, and a slot with none has a tail of zeros. Assumes nothing.
 use mathlib.Core.Path.{_≡_, refl, sym, _∙_, ap}
-use mathlib.Core.Bool.{Bool, true, false, cond}
+use mathlib.Core.Bool.{Bool, true, false, not, cond}
 use mathlib.Core.List.{List}
 use Prim.Native.Nat.{ℕ, _+_, _-_, _*_}
 use native.Mathlib.Omega.{arith}
 use lib.Dec.{ltb}
 use lib.ListN.{length, take, drop, length-drop, drop-of-length-le}
 use lib.Seq.{drop-drop, length-take-le, take-all}
-use borrow.Author.Tests.{ltb-true, ltb-false}
-use Rattle.bank.specs.Slot.{placesIn, tailIn}
+use borrow.Author.Tests.{ltb-true, ltb-false, not-false}
+use Rattle.feed.specs.Places.{zeros}
+use Rattle.feed.proofs.Sound.{neither}
+use Rattle.bank.specs.Slot.{headOf, placesIn, tailIn}
+use Rattle.bank.specs.Damage.{blank, stray}
+use Rattle.bank.proofs.Blank.{blank-zeros}
 use Rattle.bank.proofs.Slots.{drop-take}
 
 module _ (s : List ℕ) (size : length s ≡ 256) where
@@ -33,3 +37,9 @@ module _ (s : List ℕ) (size : length s ≡ 256) where
   pub tail-scan : take 59 (drop 197 s) ≡ tailIn s
   unfolding tailIn
   tail-scan = take-all 59 (drop 197 s) (simp length-drop (omega arith))
+
+  pub clean-tail : stray s ≡ false → tailIn s ≡ zeros 59
+  unfolding stray tailIn
+  clean-tail e =
+      let blank-tail = not-false _ (neither (not (blank (drop (6 * headOf s .held) (placesIn s)))) (not (blank (drop 197 s))) e .1) in
+      blank-zeros (drop 197 s) blank-tail ∙ ap zeros (length-drop 197 s ∙ omega arith)

@@ -1,23 +1,22 @@
 -- An open slot's feed, passed through a push and put back, gives the outcome of the bank's push: what the feed refuses with 3 is the slot's damage,
 -- and a refused feed goes back as it was. Assumes nothing.
 use mathlib.Core.Path.{_≡_, refl, sym, _∙_, ap}
-use mathlib.Core.Bool.{Bool, true, false, not}
+use mathlib.Core.Bool.{Bool, true, false}
 use mathlib.Core.List.{List}
-use Prim.Native.Nat.{ℕ, _*_}
+use Prim.Native.Nat.{ℕ}
 use lib.Dec.{eqb}
-use lib.ListN.{length, drop}
-use borrow.Author.Tests.{not-false}
+use lib.ListN.{length}
 use Rattle.model.specs.declared.filter.Sample.{Sample}
 use Rattle.feed.specs.Answers.{refused}
 use Rattle.feed.specs.History.{answered}
 use Rattle.feed.specs.Ring.{faulty, endOfTime, stored, historyOf, Next, pushed}
-use Rattle.feed.proofs.Sound.{neither}
-use Rattle.bank.specs.Slot.{stateOf, headOf, placesIn, tailIn, feedOf, slotOf, withSlot}
-use Rattle.bank.specs.Damage.{blank, isFree, stray, damaged}
+use Rattle.bank.specs.Slot.{stateOf, headOf, feedOf, slotOf, withSlot}
+use Rattle.bank.specs.Damage.{isFree, stray, damaged}
 use Rattle.bank.specs.Calls.{Outcome, refusing, pushedAt}
-use Rattle.bank.specs.Lent.{Lies}
+use Rattle.bank.specs.Inside.{Lies}
 use Rattle.bank.proofs.Lent.{pass, stop, inside, seen, unmoved}
 use Rattle.bank.proofs.States.{or-so, or-not, open-damaged}
+use Rattle.bank.proofs.Stray.{clean-tail}
 use Rattle.bank.proofs.RoundTrip.{Bytes, slot-back}
 
 -- what a feed's push leaves, put into its slot
@@ -25,13 +24,9 @@ abbrev pub returned : List ℕ → ℕ → Next → Outcome
 returned bank slot n = record { answer = n .answer; bank = withSlot bank slot (slotOf (n .feed)) }
 
 module _ {bank : List ℕ} {slot : ℕ} {s : List ℕ} (l : Lies bank slot s) (size : length s ≡ 256) (bytes : Bytes s) (one : stateOf s ≡ 1) (clean : stray s ≡ false) where
-  unspoilt : blank (tailIn s) ≡ true
-  unfolding stray
-  unspoilt = not-false _ (neither (not (blank (drop (6 * headOf s .held) (placesIn s)))) (not (blank (tailIn s))) clean .1)
-
   put-back : (n : ℕ) → returned bank slot (record { answer = refused n; feed = feedOf s }) ≡ refusing bank n
   put-back n =
-      let same = ap (λ (r : List ℕ). withSlot bank slot r) (slot-back s size bytes one unspoilt) ∙ unmoved l in
+      let same = ap (λ (r : List ℕ). withSlot bank slot r) (slot-back s size bytes one (clean-tail s size clean)) ∙ unmoved l in
       λ i. record { answer = refused n; bank = same i }
 
   taken : isFree s ≡ false

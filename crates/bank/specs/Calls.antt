@@ -1,6 +1,6 @@
 -- Document 01, "The bank" and "Refusal numbers": what each call answers and leaves.
 use mathlib.Core.Path.{_≡_}
-use mathlib.Core.Bool.{not, _||_}
+use mathlib.Core.Bool.{not}
 use mathlib.Core.List.{List, [], _∷_}
 use Prim.Native.Nat.{ℕ}
 use lib.Dec.{eqb, ltb}
@@ -9,7 +9,7 @@ use Rattle.model.specs.declared.filter.Sample.{Sample}
 use Rattle.refusals.specs.Refusals.{Refusal, unlessRefused}
 use Rattle.feed.specs.declared.Feed.{Feed}
 use Rattle.feed.specs.declared.Answer.{Answer}
-use Rattle.feed.specs.Tags.{servedNominal, servedRate}
+use Rattle.feed.specs.Tags.{noNominal, noRate}
 use Rattle.feed.specs.Answers.{Said, refused, done, said}
 use Rattle.feed.specs.History.{answered}
 use Rattle.feed.specs.Places.{zeros}
@@ -54,14 +54,6 @@ isOpenAt bank slot = record { number = 4; due = isOpen (slotAt bank slot) }
 -- 5: push or close on a free slot
 abbrev pub isFreeAt : List ℕ → ℕ → Refusal
 isFreeAt bank slot = record { number = 5; due = isFree (slotAt bank slot) }
-
--- 6: nominal not 50 or 60
-abbrev pub noNominal : ℕ → Refusal
-noNominal nominal = record { number = 6; due = not (servedNominal nominal) }
-
--- 7: rate not served, and not 0
-abbrev pub noRate : ℕ → ℕ → Refusal
-noRate nominal rate = record { number = 7; due = not (servedRate nominal rate || eqb rate 0) }
 
 -- 8: SOC 4294967295 and the sample is the last index of the second
 abbrev pub endOfTimeAt : List ℕ → ℕ → Refusal

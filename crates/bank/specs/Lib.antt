@@ -1,5 +1,5 @@
--- The definitions of `bank`.
+-- The definitions of `bank`; `Inside` is no part of any promise.
 pub mod Slot
 pub mod Damage
 pub mod Calls
-pub mod Lent
+pub mod Inside

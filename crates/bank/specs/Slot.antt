@@ -47,7 +47,7 @@ placesIn s = take 186 (drop 11 s)
 unfoldable pub tailIn : List ℕ → List ℕ
 tailIn s = drop 197 s
 
--- then zeros
+-- then zeros, whatever the feed
 unfoldable pub tailOf : Feed → List ℕ
 tailOf f = zeros 59
 

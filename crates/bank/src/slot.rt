@@ -2,10 +2,33 @@
 use feed::Feed;
 use feed::Head;
 ghost use mathlib.Core.Path.{_≡_};
-ghost use Prim.Native.Nat.{_+_, _<_};
+ghost use Prim.Native.Nat.{_+_, _*_, _≤_, _<_};
 ghost use lib.ListN.{length, getD};
 ghost use Rattle.feed.specs.Places.{zeros, be16};
 ghost use Rattle.bank.specs.Slot.{headOf, headBytes, placesIn, feedOf, slotOf};
+ghost use Rattle.bank.specs.Inside.{Beside};
+ghost use Rattle.bank.specs.Calls.{wrongLength, noSlot};
+ghost use Rattle.refusals.specs.Refusals.{judged};
+ghost use mathlib.Core.List.{[], _∷_};
+
+// Where a slot begins in its bank, or the refusal.
+pub(crate) enum Found {
+    Refused(u8),
+    At(usize),
+}
+
+// The slot of that number in a bank: refused 1, 2.
+pub(crate) fn find(bank: &[u8], slot: u8) -> Found
+    ensures { λ r. ⌜ r ≡ judged (wrongLength (now (bank .entry)) ∷ noSlot slot ∷ []) Found.Refused (Found.At (256 * slot)) ⌝ }
+{
+    if bank.len() != 4096 {
+        return Found::Refused(1);
+    }
+    if slot > 15 {
+        return Found::Refused(2);
+    }
+    Found::At(256 * (slot as usize))
+}
 
 // Zeroes every byte.
 pub(crate) fn zero(s: &mut [u8])
@@ -106,4 +129,20 @@ pub(crate) fn put_feed(s: &mut [u8], f: Feed)
     put(&mut s[0..11], &head);
     put(&mut s[11..197], &places);
     zero(&mut s[197..256]);
+}
+
+// A feed goes back into its slot after a push: the numbers, and the place of the sample. The slot's other bytes are the feed's already.
+pub(crate) fn put_back(s: &mut [u8], place: u8, f: Feed)
+    requires { ⌜ (length (now s) ≡ 256) × (place ≤ 30) ⌝ }
+    requires { ⌜ Beside place (now s) f ⌝ }
+    ensures { λ _. ⌜ now (s .exit) ≡ slotOf f ⌝ }
+{
+    let places = f.places;
+    let head = head_bytes(f.head);
+    put(&mut s[0..11], &head);
+    let at = 6 * (place as usize);
+    let end = at + 6;
+    let from = 11 + at;
+    let to = from + 6;
+    put(&mut s[from..to], &places[at..end]);
 }

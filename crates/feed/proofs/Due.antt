@@ -1,9 +1,9 @@
 -- The report that comes with a sample, told of the head before it, is the one that the history rule gives of the samples then held: where
 -- thirty were held the ring read oldestFirst is the whole history, where fewer were neither gives one. Assumes nothing.
-use mathlib.Core.Path.{_≡_, refl, sym, ap, _∙_}
-use mathlib.Core.Bool.{Bool, true, false, cond, _&&_}
+use mathlib.Core.Path.{_≡_, refl, ap, _∙_}
+use mathlib.Core.Bool.{Bool, true, false, cond}
 use mathlib.Core.List.{List}
-use Prim.Native.Nat.{ℕ, suc, _+_, _-_, _*_, _%_, _<_, _≤_, min}
+use Prim.Native.Nat.{ℕ, suc, _+_, _-_, _*_, _<_, _≤_, min}
 use native.Mathlib.Omega.{arith}
 use lib.Dec.{leb, ltb, eqb}
 use lib.ListN.{length, drop, length-drop}
@@ -11,8 +11,8 @@ use borrow.Author.Tests.{leb-true, leb-false, le-leb, lt-leb, ltb-true, ltb-fals
 use Rattle.model.specs.declared.filter.Sample.{Sample}
 use Rattle.feed.specs.declared.Head.{Head}
 use Rattle.feed.specs.declared.Feed.{Feed}
-use Rattle.feed.specs.Tags.{samplingOf, spacing, indexOf}
-use Rattle.feed.specs.Answers.{Said, taken}
+use Rattle.model.specs.Sampling.{samplingOf}
+use Rattle.feed.specs.Answers.{taken}
 use Rattle.feed.specs.History.{History, nextNumber, isDue, reportAt, answered}
 use Rattle.feed.specs.Places.{samplesOf}
 use Rattle.feed.specs.Ring.{nextOf, turns, nextHead, oldestFirst, lastOf, historyOf}

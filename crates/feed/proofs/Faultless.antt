@@ -7,7 +7,8 @@ use native.Mathlib.Omega.{arith}
 use lib.Dec.{ltb, eqb}
 use borrow.Author.Tests.{ltb-true, ltb-false, lt-ltb, le-ltb, eqb-true, eqb-false, eq-eqb, ne-eqb}
 use Rattle.feed.specs.declared.Head.{Head}
-use Rattle.feed.specs.Tags.{servedNominal, among, servedRate, keptRate, samplingOf}
+use Rattle.feed.specs.Tags.{servedNominal, among, servedRate, keptRate}
+use Rattle.model.specs.Sampling.{samplingOf}
 use Rattle.feed.specs.Ring.{unserved, uneven, early, faulty, opened, turns, nextHead}
 use Rattle.feed.proofs.Sound.{Sound, sound, neither, served}
 use Rattle.feed.proofs.Due.{held-after, place-after}

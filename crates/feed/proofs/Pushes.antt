@@ -4,7 +4,7 @@ use mathlib.Core.Bool.{Bool, true, false, cond, _&&_}
 use mathlib.Core.List.{List, [], _∷_}
 use Prim.Native.Nat.{ℕ, _≤_}
 use borrow.Author.Tests.{leb-true}
-use lib.Dec.{leb, eqb}
+use lib.Dec.{leb}
 use Rattle.model.specs.declared.filter.Sample.{Sample}
 use Rattle.refusals.proofs.Passing.{pass, stop}
 use Rattle.feed.specs.declared.Head.{Head}
@@ -13,7 +13,7 @@ use Rattle.feed.specs.Answers.{Said, refused, taken}
 use Rattle.feed.specs.History.{answered}
 use Rattle.feed.specs.Places.{samplesOf, withPlace}
 use Rattle.feed.specs.Ring.{Next, faulty, faultyHead, endOfTime, stored, oldestFirst, historyOf, pushed}
-use Rattle.feed.specs.Newest.{centreOf, dueWith, reportWith}
+use Rattle.feed.specs.Newest.{dueWith, reportWith}
 use Rattle.feed.proofs.Sound.{sound}
 use Rattle.feed.proofs.Due.{answer-is}
 

@@ -1,14 +1,15 @@
 -- What a head that is not faulty keeps to: each test of the definition, turned into its fact. Assumes nothing.
-use mathlib.Core.Path.{_≡_, refl, sym, ap, _∙_}
+use mathlib.Core.Path.{_≡_, refl, sym}
 use mathlib.Core.Bool.{Bool, true, false, not, _&&_, _||_}
 use mathlib.Core.List.{List, [], _∷_}
 use Prim.Native.Nat.{ℕ, _+_, _*_, _<_, _≤_}
 use native.Mathlib.Omega.{arith}
-use lib.Dec.{T, ltb, leb, eqb, lit≤, leb→le, eqb→eq}
+use lib.Dec.{T, leb, eqb, lit≤, leb→le, eqb→eq}
 use mir.Facts.{and-yes}
 use borrow.Author.Tests.{eqb-true, eq-eqb, lt-ltb, ltb-true, ltb-false, not-false}
 use Rattle.feed.specs.declared.Head.{Head}
-use Rattle.feed.specs.Tags.{servedNominal, servedRate, rates, among, samplingOf, spacing}
+use Rattle.feed.specs.Tags.{servedNominal, servedRate, rates, among, spacing}
+use Rattle.model.specs.Sampling.{samplingOf}
 use Rattle.feed.specs.Ring.{unserved, uneven, early, faulty, endOfTime}
 
 clash : true ≡ false → ⊥

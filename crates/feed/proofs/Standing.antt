@@ -1,16 +1,17 @@
 -- The centre's SOC and index: 15 before the next sample, in the same second or in the one before. Numbers from index 0 of SOC 0 are a second's
 -- samples and an index, so that quotient and remainder give them back. Assumes nothing.
-use mathlib.Core.Path.{_≡_, refl, sym, ap, ap₂, _∙_}
+use mathlib.Core.Path.{_≡_, refl, sym}
 use mathlib.Core.Bool.{Bool, true, false}
-use Prim.Native.Nat.{ℕ, zero, suc, _+_, _-_, _*_, _/_, _%_, _<_, _≤_}
+use Prim.Native.Nat.{ℕ, zero, suc, _+_, _-_, _*_, _/_, _<_, _≤_}
 use native.Mathlib.Omega.{arith}
-use native.Mathlib.Nat.{mod-lt, div-lt-iff-lt-mul}
+use native.Mathlib.Nat.{div-lt-iff-lt-mul}
 use lib.Dec.{ltb}
 use borrow.Author.Tests.{ltb-true, ltb-false}
 use lib.Arith.{digits-div, digits-mod}
 use Rattle.feed.specs.declared.Head.{Head}
 use Rattle.feed.specs.declared.Centre.{Centre}
-use Rattle.feed.specs.Tags.{samplingOf, spacing, socOf, indexOf}
+use Rattle.feed.specs.Tags.{spacing, socOf, indexOf}
+use Rattle.model.specs.Sampling.{samplingOf}
 use Rattle.feed.specs.Ring.{nextOf}
 use Rattle.feed.specs.Newest.{centreNumber, centreOf}
 use Rattle.feed.proofs.Sound.{Sound, Served}

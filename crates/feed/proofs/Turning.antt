@@ -1,8 +1,8 @@
 -- The figures of a window depend on its first index mod 15, and the samplings are multiples of 15: so the newest sample's index, thirty after
 -- the first, serves for the first one's number. Assumes nothing.
-use mathlib.Core.Path.{_≡_, sym, ap, _∙_}
+use mathlib.Core.Path.{_≡_, ap, _∙_}
 use mathlib.Core.List.{List}
-use Prim.Native.Nat.{ℕ, _+_, _-_, _*_, _%_, _<_, _≤_}
+use Prim.Native.Nat.{ℕ, _+_, _-_, _%_, _≤_}
 use native.Mathlib.Omega.{arith}
 use lib.ListN.{getD}
 use Rattle.model.specs.declared.filter.Sample.{Sample}

@@ -1,6 +1,6 @@
 -- Each public function's contract admits one outcome: two that equal the same are equal, and an answer is found again from what is said of it.
 -- Assumes nothing.
-use mathlib.Core.Path.{_≡_, refl, sym, ap, ap₂, _∙_}
+use mathlib.Core.Path.{_≡_, refl, sym, ap, _∙_}
 use mathlib.Core.Bool.{Bool}
 use Prim.Native.Nat.{ℕ}
 use Rattle.model.specs.declared.filter.Sample.{Sample}
@@ -9,7 +9,8 @@ use Rattle.feed.specs.declared.Feed.{Feed}
 use Rattle.feed.specs.declared.Answer.{Answer}
 use Rattle.feed.specs.declared.Answer.the-variants.{Refused, Taken, Reported}
 use Rattle.feed.specs.declared.Pushed.{Pushed}
-use Rattle.feed.specs.Tags.{servedNominal, servedRate, keptRate}
+use Rattle.model.specs.declared.sampling.Nominal.{Nominal}
+use Rattle.feed.specs.Tags.{servedNominal, nominalOf, servedRate, keptRate}
 use Rattle.feed.specs.Answers.{Said, refused, done, taken, takenWith, said}
 use Rattle.feed.specs.Ring.{Next, faulty, opened, Pushing}
 
@@ -46,6 +47,9 @@ served-nominal-unique nominal = one-answer (servedNominal nominal)
 
 pub served-rate-unique : (nominal rate : ℕ) (r q : Bool) → r ≡ servedRate nominal rate → q ≡ servedRate nominal rate → r ≡ q
 served-rate-unique nominal rate = one-answer (servedRate nominal rate)
+
+pub nominal-of-unique : (nominal : ℕ) (r q : Nominal) → r ≡ nominalOf nominal → q ≡ nominalOf nominal → r ≡ q
+nominal-of-unique nominal = one-answer (nominalOf nominal)
 
 pub kept-rate-unique : (nominal rate r q : ℕ) → r ≡ keptRate nominal rate → q ≡ keptRate nominal rate → r ≡ q
 kept-rate-unique nominal rate = one-answer (keptRate nominal rate)

@@ -8,7 +8,8 @@ use Rattle.model.specs.declared.filter.Sample.{Sample}
 use Rattle.model.specs.Filter.{windowed}
 use Rattle.model.specs.Report.{figuresAt, threePhase}
 use Rattle.refusals.specs.Refusals.{Refusal, unlessRefused}
-use Rattle.feed.specs.Tags.{nominalOf, samplingOf, spacing, socOf, indexOf}
+use Rattle.feed.specs.Tags.{nominalOf, spacing, socOf, indexOf}
+use Rattle.model.specs.Sampling.{samplingOf}
 use Rattle.feed.specs.Answers.{Said, refused, taken, tagged}
 
 -- the nominal and the kept rate, the number of the first sample, and the samples since, oldest first
@@ -30,7 +31,8 @@ opening nominal rate soc = record { nominal = nominal; rate = rate; first = soc 
 unfoldable pub grown : History → Sample → History
 grown h s = record { nominal = h .nominal; rate = h .rate; first = h .first; samples = h .samples ++ (s ∷ []) }
 
--- A report is centred on each index that is a multiple of D. It comes with the sample 15 after, if 31 samples are held.
+-- A report is centred on each index that is a multiple of D. It comes with the sample 15 after, if 31 samples are held: the centre is then 15 or
+-- more after the first sample, so index 0 of the opening second is never reported.
 unfoldable pub isDue : History → Bool
 isDue h = leb 31 (length (h .samples)) && eqb (indexOf (h .nominal) (nextNumber h - 16) % spacing (h .nominal) (h .rate)) 0
 

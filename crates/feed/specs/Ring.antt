@@ -10,7 +10,8 @@ use Rattle.refusals.specs.Refusals.{Refusal, unlessRefused}
 use Rattle.feed.specs.declared.Head.{Head}
 use Rattle.feed.specs.declared.Feed.{Feed}
 use Rattle.feed.specs.declared.Pushed.{Pushed}
-use Rattle.feed.specs.Tags.{servedNominal, servedRate, keptRate, samplingOf}
+use Rattle.feed.specs.Tags.{servedNominal, servedRate, keptRate}
+use Rattle.model.specs.Sampling.{samplingOf}
 use Rattle.feed.specs.Answers.{Said, refused, said}
 use Rattle.feed.specs.History.{History, answered, lastSample}
 use Rattle.feed.specs.Places.{zeros, samplesOf, withPlace}
@@ -29,7 +30,8 @@ uneven h = ltb (h .held) 31 && (not (eqb (h .place) (h .held)) || not (eqb (h .i
 unfoldable pub early : Head → Bool
 early h = eqb (h .held) 31 && (eqb (h .soc) 0 && ltb (h .index) 31)
 
--- the faults of the numbers: an unserved nominal or rate, index not below the sampling, held over 31, place over 30, and those two
+-- the faults of the numbers: an unserved nominal or rate, index not below the sampling, held over 31, place over 30, fewer than 31 held where place
+-- or index differs from held, 31 held with SOC 0 and index under 31
 unfoldable pub faulty : Head → Bool
 faulty h = unserved h || not (ltb (h .index) (samplingOf (h .nominal))) || ltb 31 (h .held) || ltb 30 (h .place) || uneven h || early h
 
@@ -70,6 +72,7 @@ stored f s = record { head = nextHead (f .head); places = withPlace (f .places) 
 abbrev pub oldestFirst : {S : Type 0} → ℕ → List S → List S
 oldestFirst place l = drop place l ++ take place l
 
+-- the last n
 abbrev pub lastOf : {S : Type 0} → ℕ → List S → List S
 lastOf n l = drop (length l - n) l
 
@@ -82,7 +85,7 @@ historyOf f = record {
   samples = lastOf (f .head .held) (oldestFirst (f .head .place) (samplesOf 31 (f .places)));
 }
 
--- numbers that no feed has are refused as damage, 3; then 8
+-- faulty numbers are refused as damage, 3 (stray bytes are the bank's to find); then 8
 abbrev pub faultyHead : Head → Refusal
 faultyHead h = record { number = 3; due = faulty h }
 

@@ -1,21 +1,20 @@
 -- Document 01, "Sampling and tags".
-use mathlib.Core.Bool.{Bool, true, false, cond, _||_}
+use mathlib.Core.Bool.{Bool, false, not, cond, _||_}
 use mathlib.Core.List.{List, [], _∷_}
-use Prim.Native.Nat.{ℕ, _*_, _/_, _%_}
+use Prim.Native.Nat.{ℕ, _/_, _%_}
 use lib.Dec.{eqb}
 use Rattle.model.specs.declared.sampling.Nominal.{Nominal}
 use Rattle.model.specs.declared.sampling.Nominal.the-variants.{Fifty, Sixty}
+use Rattle.model.specs.Sampling.{samplingOf}
+use Rattle.refusals.specs.Refusals.{Refusal}
 
 -- Nominal frequency is 50 or 60 Hz
 abbrev pub servedNominal : ℕ → Bool
 servedNominal nominal = eqb nominal 50 || eqb nominal 60
 
+-- a served number as a nominal frequency; others are refused before this is asked
 abbrev pub nominalOf : ℕ → Nominal
 nominalOf nominal = cond (eqb nominal 50) Fifty Sixty
-
--- Sampling is 15 per nominal cycle
-abbrev pub samplingOf : ℕ → ℕ
-samplingOf nominal = 15 * nominal
 
 -- Served rates: 10, 25, 50 reports a second at 50 Hz; 10, 12, 15, 20, 30, 60 at 60 Hz
 abbrev pub rates : ℕ → List ℕ
@@ -28,7 +27,15 @@ among n (m ∷ ms) = eqb n m || among n ms
 unfoldable pub servedRate : ℕ → ℕ → Bool
 servedRate nominal rate = among rate (rates nominal)
 
--- Rate 0 in an opening or a file header stands for 10, and 10 is what is kept
+-- 6: nominal not 50 or 60
+abbrev pub noNominal : ℕ → Refusal
+noNominal nominal = record { number = 6; due = not (servedNominal nominal) }
+
+-- 7: rate not served, and not 0
+abbrev pub noRate : ℕ → ℕ → Refusal
+noRate nominal rate = record { number = 7; due = not (servedRate nominal rate || eqb rate 0) }
+
+-- Rate 0 in an opening or a file header stands for 10, and 10 is what is kept, at either nominal
 unfoldable pub keptRate : ℕ → ℕ → ℕ
 keptRate nominal rate = cond (eqb rate 0) 10 rate
 
@@ -36,7 +43,8 @@ keptRate nominal rate = cond (eqb rate 0) 10 rate
 abbrev pub spacing : ℕ → ℕ → ℕ
 spacing nominal rate = samplingOf nominal / rate
 
--- Sample index 0 of a second falls on the UTC second: samples are numbered from index 0 of SOC 0, and number n has this SOC and this index
+-- Sample index 0 of a second falls on the UTC second: samples are numbered from index 0 of SOC 0, and number n has this SOC and this index.
+-- The sampling is a multiple of 15, so a number meets the same table entries as its index.
 abbrev pub socOf : ℕ → ℕ → ℕ
 socOf nominal n = n / samplingOf nominal
 

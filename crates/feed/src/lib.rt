@@ -4,20 +4,22 @@ mod tags;
 
 use model::Sample;
 use model::measure;
+use places::more_held;
+use places::next_place;
 use places::place_bytes;
 use places::sample_at;
 pub use tags::kept_rate;
-use tags::nominal_of;
+pub use tags::nominal_of;
 pub use tags::served_nominal;
 pub use tags::served_rate;
 ghost use mathlib.Core.Path.{_≡_};
-ghost use mathlib.Core.Bool.{false, cond};
-ghost use Prim.Native.Nat.{_+_, _≤_};
-ghost use lib.Dec.{ltb, eqb};
-ghost use Rattle.feed.specs.Tags.{samplingOf, spacing};
+ghost use mathlib.Core.Bool.{false};
+ghost use Prim.Native.Nat.{_≤_};
+ghost use Rattle.feed.specs.Tags.{spacing};
+ghost use Rattle.model.specs.Sampling.{samplingOf};
 ghost use Rattle.feed.specs.Answers.{saidReport};
 ghost use Rattle.feed.specs.Places.{samplesOf};
-ghost use Rattle.feed.specs.Ring.{unserved, uneven, early, faulty, opened, endOfTime, nextHead, stored, oldestFirst, Pushing};
+ghost use Rattle.feed.specs.Ring.{unserved, uneven, early, faulty, opened, endOfTime, nextHead, oldestFirst, Pushing};
 ghost use Rattle.feed.specs.Newest.{centreOf, dueWith, reportWith};
 
 // The numbers of a feed: what it is opened with, how many samples it holds, where the next one stands and where it goes.
@@ -74,21 +76,6 @@ pub struct Pushed {
 struct Centre {
     soc: u32,
     index: u16,
-}
-
-// The place after a place: 30 to 0.
-fn next_place(place: u8) -> u8
-    requires { ⌜ place ≤ 30 ⌝ }
-    ensures { λ r. ⌜ r ≡ cond (eqb place 30) 0 (place + 1) ⌝ }
-{
-    if place == 30 { 0 } else { place + 1 }
-}
-
-// One more held, and no more than 31.
-fn more_held(held: u8) -> u8
-    ensures { λ r. ⌜ r ≡ cond (ltb held 31) (held + 1) held ⌝ }
-{
-    if held < 31 { held + 1 } else { held }
 }
 
 impl Head {
@@ -251,36 +238,16 @@ impl Feed {
         }
     }
 
-    // A sample goes in the next place, which then moves on one.
-    fn store(mut self, s: Sample) -> Feed
-        requires { ⌜ faulty (self .head) ≡ false ⌝ }
-        requires { ⌜ endOfTime (self .head) .due ≡ false ⌝ }
-        ensures { λ r. ⌜ r ≡ stored self s ⌝ }
-    {
-        let head = self.head;
-        let bytes = place_bytes(s);
-        let at = 6 * head.place as usize;
-        self.places[at] = bytes[0];
-        self.places[at + 1] = bytes[1];
-        self.places[at + 2] = bytes[2];
-        self.places[at + 3] = bytes[3];
-        self.places[at + 4] = bytes[4];
-        self.places[at + 5] = bytes[5];
-        self.head = head.next();
-        self
-    }
-
     // Thirty-one samples from the next place oldestFirst: the oldest first.
     fn window(self) -> [Sample; 31]
         requires { ⌜ self .head .place ≤ 30 ⌝ }
         ensures { λ r. ⌜ r ≡ oldestFirst (self .head .place) (samplesOf 31 (self .places)) ⌝ }
     {
-        let places = self.places;
         let mut window = [Sample { a: 0, b: 0, c: 0 }; 31];
         let mut place = self.head.place;
         let mut i: usize = 0;
         while i < 31 {
-            let s = sample_at(&places, place as usize);
+            let s = sample_at(&self.places, place as usize);
             window[i] = s;
             place = next_place(place);
             i += 1;
@@ -288,8 +255,9 @@ impl Feed {
         window
     }
 
-    // One sample more: refused 3, 8, and then nothing changes; else taken, with the report if one is due.
-    pub fn push(self, s: Sample) -> Pushed
+    // One sample more. Refused 3, 8, and then nothing changes; else it goes in the next place, which then moves on one, and it is taken, with
+    // the report if one is due.
+    pub fn push(mut self, s: Sample) -> Pushed
         ensures { λ r. ⌜ Pushing self s r ⌝ }
     {
         let head = self.head;
@@ -305,16 +273,24 @@ impl Feed {
                 answer: Answer::Refused(8),
             };
         }
-        let feed = self.store(s);
+        let bytes = place_bytes(s);
+        let at = 6 * head.place as usize;
+        self.places[at] = bytes[0];
+        self.places[at + 1] = bytes[1];
+        self.places[at + 2] = bytes[2];
+        self.places[at + 3] = bytes[3];
+        self.places[at + 4] = bytes[4];
+        self.places[at + 5] = bytes[5];
+        self.head = head.next();
         if head.is_due() {
-            let report = head.report(feed.window());
+            let report = head.report(self.window());
             return Pushed {
-                feed,
+                feed: self,
                 answer: Answer::Reported(report),
             };
         }
         Pushed {
-            feed,
+            feed: self,
             answer: Answer::Taken,
         }
     }

@@ -1,9 +1,26 @@
 // Document 01, "The bank": places of three samples, each sample two bytes, big-endian.
 use model::Sample;
 ghost use mathlib.Core.Path.{_≡_};
+ghost use mathlib.Core.Bool.{cond};
 ghost use Prim.Native.Nat.{_+_, _*_, _≤_};
+ghost use lib.Dec.{ltb, eqb};
 ghost use lib.ListN.{length, take, drop};
 ghost use Rattle.feed.specs.Places.{be16, signed16, bits16, sampleOf, placeOf};
+
+// The place after a place: 30 to 0.
+pub(crate) fn next_place(place: u8) -> u8
+    requires { ⌜ place ≤ 30 ⌝ }
+    ensures { λ r. ⌜ r ≡ cond (eqb place 30) 0 (place + 1) ⌝ }
+{
+    if place == 30 { 0 } else { place + 1 }
+}
+
+// One more held, and no more than 31.
+pub(crate) fn more_held(held: u8) -> u8
+    ensures { λ r. ⌜ r ≡ cond (ltb held 31) (held + 1) held ⌝ }
+{
+    if held < 31 { held + 1 } else { held }
+}
 
 fn wide(byte: u8) -> u16
     ensures { λ r. ⌜ r ≡ byte ⌝ }

@@ -38,8 +38,8 @@ pub fn kept_rate(nominal: u8, rate: u8) -> u8
     rate
 }
 
-// The nominal frequency that a served number is.
-pub(crate) fn nominal_of(nominal: u8) -> Nominal
+// A served number as a nominal frequency. Others are refused before this is asked.
+pub fn nominal_of(nominal: u8) -> Nominal
     ensures { λ r. ⌜ r ≡ nominalOf nominal ⌝ }
 {
     if nominal == 50 {

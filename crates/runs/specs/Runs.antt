@@ -11,7 +11,7 @@ use Rattle.model.specs.declared.filter.Sample.{Sample}
 use Rattle.model.specs.declared.report.Figures.{Figures}
 use Rattle.model.specs.Report.{figuresAt, threePhase}
 use Rattle.refusals.specs.Refusals.{Refusal, unlessRefused}
-use Rattle.feed.specs.Tags.{servedNominal, nominalOf}
+use Rattle.feed.specs.Tags.{noNominal, nominalOf}
 use Rattle.runs.specs.declared.Measured.{Measured}
 use Rattle.runs.specs.declared.Measured.the-variants.{Refused, Given}
 
@@ -19,7 +19,7 @@ use Rattle.runs.specs.declared.Measured.the-variants.{Refused, Given}
 abbrev pub sampleAt : List ℤ → List ℤ → List ℤ → ℕ → Sample
 sampleAt a b c n = record { a = getD a n (pos 0); b = getD b n (pos 0); c = getD c n (pos 0) }
 
--- the n samples from an index on
+-- Not part of any promise: the n samples from an index on
 unfoldable pub samplesFrom : (ℕ → Sample) → ℕ → ℕ → List Sample
 samplesFrom x first zero = []
 samplesFrom x first (suc n) = samplesFrom x first n ++ (x (first + n) ∷ [])
@@ -43,10 +43,6 @@ saidFigures f = figures (f .re) (f .im) (f .d1) (f .d2) (f .mark) (f .«re_peak�
 abbrev pub said : Measured → Said
 said (Refused number) = refused number
 said (Given f) = saidFigures f
-
--- 6: nominal not 50 or 60
-abbrev pub noNominal : ℕ → Refusal
-noNominal nominal = record { number = 6; due = not (servedNominal nominal) }
 
 -- 16: the three runs differ in length
 abbrev pub unequalRuns : List ℤ → List ℤ → List ℤ → Refusal

@@ -1,11 +1,9 @@
 // The same measurement over three whole lent runs: document 01, "The report", last paragraph.
 use model::Figures;
-use model::Nominal;
 use model::Sample;
 ghost use mathlib.Core.Path.{_≡_};
 ghost use Prim.Native.Nat.{_+_, _≤_};
 ghost use lib.ListN.{length};
-ghost use Rattle.feed.specs.Tags.{servedNominal, nominalOf};
 ghost use Rattle.runs.specs.Runs.{sampleAt, samplesFrom, unequal, offCentre, Measuring};
 
 // The report without a tag, or a refusal.
@@ -53,16 +51,6 @@ fn window_from(a: &[i16], b: &[i16], c: &[i16], first: usize) -> [Sample; 31]
     window
 }
 
-fn nominal_of(nominal: u8) -> Nominal
-    ensures { λ r. ⌜ r ≡ nominalOf nominal ⌝ }
-{
-    if nominal == 50 {
-        Nominal::Fifty
-    } else {
-        Nominal::Sixty
-    }
-}
-
 // The figures at a centre of three runs, the first sample being index 0; refused 6, 16, 17.
 pub fn measure(a: &[i16], b: &[i16], c: &[i16], centre: usize, nominal: u8) -> Measured
     ensures { λ r. ⌜ Measuring (now (a .entry)) (now (b .entry)) (now (c .entry)) centre nominal r ⌝ }
@@ -81,6 +69,6 @@ pub fn measure(a: &[i16], b: &[i16], c: &[i16], centre: usize, nominal: u8) -> M
     }
     let first = centre - 15;
     let window = window_from(a, b, c, first);
-    let at = nominal_of(nominal);
+    let at = feed::nominal_of(nominal);
     Measured::Given(model::measure(window, first, at))
 }

@@ -18,25 +18,22 @@ use Rattle.feed.proofs.Feed.window.Statement.{statement}
 use Rattle.feed.proofs.Feed.window.Tie as tie
 
 abbrev Inv-loop : tie.InvT-loop
-Inv-loop places window₀ place₀ i₀ window place i =
+Inv-loop self window₀ place₀ i₀ window place i =
     (i ≤ 31) × (length window ≡ 31) × (place ≡ (place₀ + i) % 31)
-    × ((j : ℕ) → j < i → getD window j noSample ≡ getD (samplesOf 31 places) ((place₀ + j) % 31) noSample)
+    × ((j : ℕ) → j < i → getD window j noSample ≡ getD (samplesOf 31 (self .places)) ((place₀ + j) % 31) noSample)
 
 abbrev μ-loop : tie.MeasureT-loop
-μ-loop places window₀ place₀ i₀ window place i = 31 - i
+μ-loop self window₀ place₀ i₀ window place i = 31 - i
 
 loop-holds : tie.Need-loop-holds Inv-loop μ-loop
 loop-holds c = (omega arith, refl, omega arith, below-none _)
-
-slice-aggregate-sample-at : tie.Need-slice-aggregate-sample-at Inv-loop μ-loop
-slice-aggregate-sample-at c = search needs
 
 cast-sample-at : tie.Need-cast-sample-at Inv-loop μ-loop
 cast-sample-at c = search needs
 
 sample-at-requires : tie.Need-sample-at-requires Inv-loop μ-loop
 sample-at-requires c κs =
-    let l : length (c .before .before .before .before .args .self .places) ≡ 186 = search needs in
+    let l : length (c .before .before .before .before .before .args .t1 .places) ≡ 186 = search needs in
     omega arith
 
 mul-window : tie.Need-mul-window Inv-loop μ-loop
@@ -56,8 +53,8 @@ loop-less c = search needs
 
 loop-again : tie.Need-loop-again Inv-loop μ-loop
 loop-again c =
-    let l = c .before .before .before .before .loop in
-    let f = c .before .before .before .before .before .before .args .self in
+    let l = c .before .before .before .before .before .before .loop in
+    let f = c .before .before .before .before .before .before .before .args .t1 in
     let at : ℕ → Sample = λ j. getD (samplesOf 31 (f .places)) ((f .head .place + j) % 31) noSample in
     let v = c .before .sample-at .result in (
       omega arith,
@@ -74,7 +71,7 @@ loop-again c =
 returns : tie.Need-returns Inv-loop μ-loop
 returns c =
     let l = c .before .loop in
-    let f = c .before .before .before .args .self in
+    let f = c .before .before .args .t1 in
     let v = samplesOf 31 (f .places) in
     let n : length v ≡ 31 = samples-length 31 (f .places) in
     let h : f .head .place ≤ length v = omega arith in
@@ -88,7 +85,6 @@ window-spec =
     Inv-loop
     μ-loop
     loop-holds
-    slice-aggregate-sample-at
     cast-sample-at
     sample-at-requires
     mul-window

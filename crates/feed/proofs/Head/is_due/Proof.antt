@@ -1,5 +1,4 @@
 -- `Head::is_due` is the definition's own test: fewer than 30 held, or the remainder of the centre's index by D. Assumes nothing.
-use mathlib.Core.Path.{_≡_, sym}
 use borrow.Author.Tests.{lt-leb, le-leb}
 use Rattle.feed.specs.Newest.{dueWith}
 use Rattle.feed.proofs.Sound.{sound}

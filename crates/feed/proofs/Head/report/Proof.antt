@@ -1,12 +1,18 @@
 -- `Head::report` answers the report that comes with the next sample: its tag from the centre, its figures from the window. Assumes nothing.
+use mathlib.Core.Path.{_≡_, ap, _∙_}
 use native.Mathlib.Omega.{arith}
 use native.Mathlib.Nat.{mod-lt}
-use Prim.Native.Nat.{_<_}
+use Prim.Native.Nat.{_+_, _-_, _<_}
 use mir.Syntax.{w32, w64}
 use mir.Val.{SFits}
 use mir.Facts.{toZ-ofZ}
-use Rattle.feed.specs.Tags.{nominalOf, samplingOf}
+use Rattle.model.specs.declared.sampling.Nominal.{Nominal}
+use Rattle.model.specs.Filter.{windowed}
+use Rattle.model.specs.Report.{figuresAt, threePhase}
+use Rattle.feed.specs.Tags.{nominalOf}
+use Rattle.model.specs.Sampling.{samplingOf}
 use Rattle.feed.specs.Answers.{tagged}
+use Rattle.feed.specs.Ring.{nextOf}
 use Rattle.feed.specs.Newest.{centreNumber, centreOf, reportWith}
 use Rattle.feed.proofs.Sound.{sound}
 use Rattle.feed.proofs.Standing.{spacing-positive, frame-below}
@@ -50,6 +56,10 @@ returns c =
     let start = c .before .before .before .before .before .before .before in
     let m = c .before .measure in
     let h = start .args .self in
+    let figures : m .result ≡ figuresAt threePhase (nominalOf (h .nominal)) (windowed (start .args .window) (nextOf h - 30)) (centreNumber h) =
+    m .ensures
+    ∙ ap (λ (n : Nominal). figuresAt threePhase n (windowed (start .args .window) (h .index)) (h .index + 15)) (c .before .before .nominal-of .ensures)
+    ∙ by-newest (nominalOf (h .nominal)) (start .args .window) h (sound h (start .pre .0)) (start .pre .1) in
     let re : SFits w64 (m .result .re) = search needs in
     let im : SFits w64 (m .result .im) = search needs in
     let d1 : SFits w32 (m .result .d1) = search needs in
@@ -61,9 +71,7 @@ returns c =
       toZ-ofZ {w = w32} {z = m .result .d2} d2,
       c .before .before .before .before .before .before .centre .ensures,
       c .before .before .before .before .before .spacing .ensures,
-      m .ensures,
-      c .before .before .nominal-of .ensures,
-      by-newest (nominalOf (h .nominal)) (start .args .window) h (sound h (start .pre .0)) (start .pre .1),
+      figures,
     )
 
 pub report-spec : {M : Type 1} → statement M
