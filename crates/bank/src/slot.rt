@@ -8,7 +8,7 @@ ghost use Rattle.feed.specs.Places.{zeros, be16};
 ghost use Rattle.bank.specs.Slot.{headOf, headBytes, placesIn, feedOf, slotOf};
 ghost use Rattle.bank.specs.Inside.{Beside};
 ghost use Rattle.bank.specs.Calls.{wrongLength, noSlot};
-ghost use Rattle.refusals.specs.Refusals.{judged};
+ghost use Rattle.refusals.specs.Refusals.{unlessRefused};
 ghost use mathlib.Core.List.{[], _∷_};
 
 // Where a slot begins in its bank, or the refusal.
@@ -19,7 +19,7 @@ pub(crate) enum Found {
 
 // The slot of that number in a bank: refused 1, 2.
 pub(crate) fn find(bank: &[u8], slot: u8) -> Found
-    ensures { λ r. ⌜ r ≡ judged (wrongLength (now (bank .entry)) ∷ noSlot slot ∷ []) Found.Refused (Found.At (256 * slot)) ⌝ }
+    ensures { λ r. ⌜ r ≡ unlessRefused (wrongLength (now (bank .entry)) ∷ noSlot slot ∷ []) Found.Refused (Found.At (256 * slot)) ⌝ }
 {
     if bank.len() != 4096 {
         return Found::Refused(1);
