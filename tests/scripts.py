@@ -3,12 +3,14 @@
 make SEED CALLS SCRIPT EXPECTED [unknown|cut]  writes a script of at least so many records, and its
                                                lines; it ends in an unknown byte or a cut record
 compare PROGRAM SEED CALLS                     runs the program on such a script
+pieces PROGRAM SEED CALLS                      the same, the script coming in pieces through a pipe
 endings PROGRAM                                runs it on short scripts of every malformed ending
 """
 
 import collections
 
 from commands import compared, dispatch, printed_by
+from files import PIECES, printed_by as printed_in_pieces
 from maker import Maker, record, run_record
 from replay import ARGUMENTS, new_memory, replay
 from scenes import SCENES
@@ -79,6 +81,15 @@ def compare(program, seed, calls):
     return compared(maker.lines, printed_by(program, b"".join(maker.records)), "lines")
 
 
+def pieces(program, seed, calls):
+    """Feeds a script to the program in pieces of each size; 0 if every line agrees, else 1."""
+    maker = made(int(seed), int(calls))
+    script = b"".join(maker.records)
+    printed = [printed_in_pieces(program, script, size or len(script)) for size in PIECES]
+    lines = [line for text in printed for line in text.decode("ascii", "replace").splitlines()]
+    return compared(maker.lines * len(PIECES), lines, "lines")
+
+
 def endings(program):
     """Runs the program on every malformed ending; 0 if all agree, else 1."""
     start = b"".join(every_record())
@@ -89,4 +100,4 @@ def endings(program):
 
 
 if __name__ == "__main__":
-    dispatch(__doc__, make, compare, endings)
+    dispatch(__doc__, make, compare, pieces, endings)

@@ -1,25 +1,23 @@
 """Windows of 31 three-phase samples, and the figures that the model gives for each.
 
-make FILE        writes the windows as records of 191 bytes
-expect FILE      prints the line of each record
-compare PROGRAM  runs the program on the records and compares its lines
+make SCRIPT EXPECTED  writes the windows as whole runs for the replay program, and their lines
+compare PROGRAM       runs the replay program on them
 """
 
 import itertools
 import random
-import struct
 from typing import NamedTuple
 
 from commands import compared, dispatch, printed_by
 from inputs import HIGH, LOW, clipped, noise_sample, rail_sample, steady_wave
 from lines import figures_line
+from maker import run_record
 from reference import cos, measure, sin
 
 SEED = 3711801
 LENGTH = 31
 CENTRE = 15
 LAST_INDEX = 4294967295
-RECORD_BYTES = 191
 PHASES = range(3)
 LAGS = (0, 5, 10)
 
@@ -248,45 +246,42 @@ def windows():
 
 
 # ---------------------------------------------------------------------------
-# Records
+# Whole runs
 
-def record(window):
-    """The 191 bytes of a window."""
-    head = struct.pack(">BI", window.nominal, window.first)
-    return head + b"".join(struct.pack(">hhh", *sample) for sample in window.samples)
-
-
-def expected_line(data):
-    """The line of a record: the centre is the sixteenth sample."""
-    nominal, first = struct.unpack(">BI", data[:5])
-    samples = list(struct.iter_unpack(">hhh", data[5:]))
-    return figures_line(measure(lambda n: samples[n - first], first + CENTRE, nominal))
+def whole_run(window):
+    """The record of a window, after as many zeros as give its samples their entries in the tables."""
+    before = window.first % 15
+    samples = [(0, 0, 0)] * before + window.samples
+    return run_record(window.nominal, before + CENTRE, list(zip(*samples)))
 
 
-def expected_lines(data):
-    """The lines of all records."""
-    assert len(data) % RECORD_BYTES == 0
-    return [expected_line(data[at:at + RECORD_BYTES]) for at in range(0, len(data), RECORD_BYTES)]
+def expected_line(window):
+    """The line of a window at its own index: the centre is the sixteenth sample."""
+    def sample_at(n):
+        return window.samples[n - window.first]
+    return figures_line(measure(sample_at, window.first + CENTRE, window.nominal))
 
 
-def make(path):
-    """Writes the records."""
-    with open(path, "wb") as file:
-        file.writelines(record(window) for window in windows())
+def script_and_lines():
+    """The records of all windows, and their lines."""
+    made = windows()
+    return b"".join(whole_run(window) for window in made), [expected_line(window) for window in made]
 
 
-def expect(path):
-    """Prints the line of each record."""
-    with open(path, "rb") as file:
-        for line in expected_lines(file.read()):
-            print(line)
+def make(script_path, expected_path):
+    """Writes the script and its lines."""
+    script, lines = script_and_lines()
+    with open(script_path, "wb") as file:
+        file.write(script)
+    with open(expected_path, "w") as file:
+        file.writelines(line + "\n" for line in lines)
 
 
 def compare(program):
-    """Runs the program on the records; 0 if every line agrees, else 1."""
-    data = b"".join(record(window) for window in windows())
-    return compared(expected_lines(data), printed_by(program, data), "windows")
+    """Runs the program on the script; 0 if every line agrees, else 1."""
+    script, lines = script_and_lines()
+    return compared(lines, printed_by(program, script), "windows")
 
 
 if __name__ == "__main__":
-    dispatch(__doc__, make, expect, compare)
+    dispatch(__doc__, make, compare)

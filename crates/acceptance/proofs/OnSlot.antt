@@ -13,7 +13,8 @@ use Rattle.feed.specs.History.{answered}
 use Rattle.feed.specs.Ring.{opened, stored, historyOf, endOfTime}
 use Rattle.bank.specs.Slot.{slotAt, withSlot, headOf, feedOf, slotOf, freeSlot}
 use Rattle.bank.specs.Damage.{isFree, isOpen, damaged}
-use Rattle.bank.specs.Calls.{Outcome, refusing, wrongLength, noSlot, noNominal, noRate, openedAt, pushedAt, closedAt}
+use Rattle.bank.specs.Calls.{Outcome, refusing, wrongLength, noSlot, openedAt, pushedAt, closedAt}
+use Rattle.feed.specs.Tags.{noNominal, noRate}
 use Rattle.bank.proofs.Slots.{put-back}
 use Rattle.acceptance.specs.Runs.{Ask, opens, samples, closes, sampleOf, Promised}
 

@@ -3,9 +3,8 @@ use mir.Syntax.{w16}
 use Prim.Native.Nat.{_*_}
 use denote.Ref.{now}
 use mir.Facts.{toZ-ofZ}
-use borrow.Author.Needs.{sfits-of}
+use borrow.Author.Needs.{sfits-of, needs}
 use Rattle.feed.proofs.Samples.{six-bytes}
-use borrow.Author.Needs.{needs}
 use Rattle.feed.proofs.places.sample_at.Statement.{statement}
 use Rattle.feed.proofs.places.sample_at.Tie as tie
 

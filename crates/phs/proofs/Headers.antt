@@ -1,0 +1,95 @@
+-- A header that is not refused has a served nominal, a served rate and a SOC of 32 bits. By the refusals in their order.
+use mathlib.Core.Path.{_≡_, refl, sym, ap, _∙_, subst}
+use mathlib.Core.Bool.{Bool, true, false, cond, _||_}
+use mathlib.Core.List.{List, [], _∷_}
+use Prim.Native.Nat.{ℕ, _^_, _≤_, _<_}
+use native.Mathlib.Omega.{arith}
+use lib.Dec.{eqb}
+use lib.ListN.{length}
+use borrow.Author.Tests.{not-false, lt-ltb, le-ltb, eq-eqb, ne-eqb}
+use Rattle.refusals.specs.Refusals.{Refusal, unlessRefused}
+use Rattle.refusals.proofs.Passing.{pass, stop}
+use Rattle.feed.specs.Tags.{servedNominal, servedRate, keptRate, noNominal, noRate}
+use Rattle.phs.specs.Header.{Said, refused, opens, headed, isMark, tooShort, noMark, noVersion, versionIn, nominalIn, rateIn, rateKept, socIn}
+use Rattle.phs.specs.Cut.{Bytes}
+use Rattle.phs.proofs.Counts.{served-cases}
+
+-- what is known of a header's outcome
+pub data Known : Said → Type 0 where
+  not-read : (number : ℕ) → Known (refused number)
+  is-read : {version nominal rate soc : ℕ} → servedNominal nominal ≡ true → servedRate nominal rate ≡ true → soc < 2 ^ 32 → Known (opens version nominal rate soc)
+
+-- the first refusal that is due, or none
+module _ (P : Said → Type 0) (refuse : (n : ℕ) → P (refused n)) (grant : Said) where
+  by-refusals : (r : Refusal) (rs : List Refusal) → (r .due ≡ false → P (unlessRefused rs refused grant)) → P (unlessRefused (r ∷ rs) refused grant)
+  by-refusals r rs on = go (r .due) refl
+    where
+      go : (t : Bool) → r .due ≡ t → P (unlessRefused (r ∷ rs) refused grant)
+      go true e = subst P (sym (stop r rs refused grant e)) (refuse (r .number))
+      go false e = subst P (sym (pass r rs refused grant e)) (on e)
+
+ten-served : (nominal : ℕ) → servedNominal nominal ≡ true → servedRate nominal 10 ≡ true
+unfolding servedRate
+ten-served = served-cases (λ n. servedRate n 10 ≡ true) refl refl
+
+-- a rate that is served or 0 is served as it is kept
+rate-kept : (nominal rate : ℕ) → servedNominal nominal ≡ true → (servedRate nominal rate || eqb rate 0) ≡ true → servedRate nominal (keptRate nominal rate) ≡ true
+unfolding keptRate
+rate-kept nominal rate a b = go (eqb rate 0) refl
+  where
+    left : (x : Bool) → (x || false) ≡ true → x ≡ true
+    left true e = refl
+    left false e = e
+
+    go : (t : Bool) → eqb rate 0 ≡ t → servedRate nominal (cond (eqb rate 0) 10 rate) ≡ true
+    go true e = rw e (ten-served nominal a)
+    go false e = rw e (left (servedRate nominal rate) (sym (ap (λ (t : Bool). servedRate nominal rate || t) e) ∙ b))
+
+soc-fits : (h : List ℕ) → Bytes h → socIn h < 2 ^ 32
+unfolding socIn
+soc-fits h b = omega (arith, b 7, b 8, b 9, b 10)
+
+pub header-known : (h : List ℕ) → Bytes h → Known (headed h)
+unfolding headed
+header-known h b =
+    let grant : Said = opens (versionIn h) (nominalIn h) (rateKept (versionIn h) (nominalIn h) (rateIn h)) (socIn h) in
+    let six = noNominal (nominalIn h) in
+    let seven = noRate (nominalIn h) (rateIn h) in
+    by-refusals Known not-read grant (tooShort h) (noMark h ∷ noVersion h ∷ six ∷ seven ∷ [])
+    (λ e. by-refusals Known not-read grant (noMark h) (noVersion h ∷ six ∷ seven ∷ [])
+    (λ e. by-refusals Known not-read grant (noVersion h) (six ∷ seven ∷ [])
+    (λ e. by-refusals Known not-read grant six (seven ∷ [])
+    (λ n. by-refusals Known not-read grant seven []
+    (λ r. is-read (not-false _ n) (rate-kept _ _ (not-false _ n) (not-false _ r)) (soc-fits h b))))))
+
+-- ---- the refusals one by one, and what a header that passes them opens
+
+module _ (h : List ℕ) where
+  pub too-short : length h < 11 → refused 14 ≡ headed h
+  unfolding headed
+  too-short l = rw (lt-ltb (length h) 11 l)
+
+  module _ (long : 11 ≤ length h) where
+    pub no-mark : isMark h ≡ false → refused 12 ≡ headed h
+    unfolding headed
+    no-mark m = rw (le-ltb (length h) 11 long, m)
+
+    module _ (marked : isMark h ≡ true) where
+      pub no-version : (versionIn h ≡ 1 → ⊥) → refused 13 ≡ headed h
+      unfolding headed
+      no-version v = rw (le-ltb (length h) 11 long, marked, ne-eqb (versionIn h) 1 v)
+
+      module _ (first : versionIn h ≡ 1) where
+        pub no-nominal : servedNominal (nominalIn h) ≡ false → refused 6 ≡ headed h
+        unfolding headed
+        no-nominal n = rw (le-ltb (length h) 11 long, marked, eq-eqb (versionIn h) 1 first, n)
+
+        module _ (served : servedNominal (nominalIn h) ≡ true) where
+          pub no-rate : (servedRate (nominalIn h) (rateIn h) || eqb (rateIn h) 0) ≡ false → refused 7 ≡ headed h
+          unfolding headed
+          no-rate r = rw (le-ltb (length h) 11 long, marked, eq-eqb (versionIn h) 1 first, served, r)
+
+          pub all-passed : (servedRate (nominalIn h) (rateIn h) || eqb (rateIn h) 0) ≡ true
+              → opens (versionIn h) (nominalIn h) (rateKept (versionIn h) (nominalIn h) (rateIn h)) (socIn h) ≡ headed h
+          unfolding headed
+          all-passed r = rw (le-ltb (length h) 11 long, marked, eq-eqb (versionIn h) 1 first, served, r)

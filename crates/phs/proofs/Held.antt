@@ -1,0 +1,146 @@
+-- The bank that is lent keeps the file's history in slot 0: an opening in the cleared bank starts it, and each push answers as the history rule tells.
+use mathlib.Core.Path.{_≡_, refl, sym, ap, ap₂, _∙_, subst}
+use mathlib.Core.Bool.{Bool, true, false, cond, not}
+use mathlib.Core.List.{List, [], _∷_}
+use Prim.Native.Nat.{ℕ, _+_, _*_, _≤_, _<_}
+use native.Mathlib.Omega.{arith}
+use lib.Dec.{eqb}
+use lib.ListN.{length, take, drop, replicate, length-replicate, replicate-append-replicate}
+use borrow.Author.Tests.{eq-eqb, eqb-true}
+use lib.Seq.{take-at}
+use Rattle.model.specs.declared.filter.Sample.{Sample}
+use Rattle.feed.specs.declared.Feed.{Feed}
+use Rattle.feed.specs.Tags.{servedNominal, servedRate, keptRate}
+use Rattle.feed.specs.Answers.{Said, refused, done}
+use Rattle.feed.specs.History.{History, opening, Told, told, answered}
+use Rattle.feed.specs.Places.{zeros}
+use Rattle.feed.specs.Ring.{opened, stored, historyOf, endOfTime}
+use Rattle.feed.proofs.Stored.{Fits16}
+use Rattle.feed.proofs.Alike.{told-last, told-on}
+use Rattle.feed.proofs.Meeting.{Keeps, opening-kept, last-same, answer-kept}
+use Rattle.feed.proofs.Meeting.{stored-kept as still-keeps}
+use Rattle.bank.specs.Slot.{slotAt, withSlot, headOf, feedOf, slotOf, freeSlot}
+use Rattle.bank.specs.Damage.{isFree, isOpen, damaged}
+use Rattle.bank.specs.Calls.{Outcome, cleared, openedAt, pushedAt}
+use Rattle.bank.proofs.Slots.{same-slot, length-kept}
+use Rattle.bank.proofs.Keeping.{Kept, feed-back, slot-whole, slot-open, kept-undamaged, free-undamaged, free-is-free}
+use Rattle.bank.proofs.KeptOn.{opened-kept, stored-kept}
+use Rattle.phs.specs.Stream.{openedIn}
+use Rattle.phs.proofs.Counts.{served-cases, clash}
+
+-- slot 0 of this bank keeps this history
+pub record Holds (bank : List ℕ) (h : History) : Type 0 where
+  pub feed : Feed
+  pub whole : length bank ≡ 4096
+  pub there : slotAt bank 0 ≡ slotOf feed
+  pub kept : Kept feed
+  pub keeps : Keeps feed h
+
+-- ---- opening
+
+none-served : (nominal : ℕ) → servedNominal nominal ≡ true → servedRate nominal 0 ≡ false
+unfolding servedRate
+none-served = served-cases (λ n. servedRate n 0 ≡ false) refl refl
+
+kept-again : (nominal rate : ℕ) → servedNominal nominal ≡ true → servedRate nominal rate ≡ true → keptRate nominal rate ≡ rate
+unfolding keptRate
+kept-again nominal rate a e = go (eqb rate 0) refl
+  where
+    go : (t : Bool) → eqb rate 0 ≡ t → cond (eqb rate 0) 10 rate ≡ rate
+    go true t = absurd (clash (sym e ∙ ap (servedRate nominal) (eqb-true rate 0 t) ∙ none-served nominal a))
+    go false t = rw t
+
+zeros-length : length (zeros 4096) ≡ 4096
+unfolding zeros
+zeros-length = length-replicate {A = ℕ} 4096 0
+
+-- slot 0 of a cleared bank is free
+zeros-free : slotAt (zeros 4096) 0 ≡ freeSlot
+unfolding slotAt zeros freeSlot
+zeros-free = ap (λ (l : List ℕ). take 256 l) (sym (replicate-append-replicate {A = ℕ} 256 3840 0)) ∙ take-at (replicate 256 0) (replicate 3840 0) 256 (length-replicate {A = ℕ} 256 0)
+
+free-not-open : isOpen freeSlot ≡ false
+unfolding freeSlot zeros
+free-not-open = refl
+
+module _ (bank : List ℕ) (whole : length bank ≡ 4096) (nominal rate soc : ℕ) (served : servedNominal nominal ≡ true) (kept : servedRate nominal rate ≡ true) where
+  abbrev fresh : Feed
+  fresh = opened nominal rate soc
+
+  cleared-is : cleared bank .bank ≡ zeros 4096
+  unfolding cleared
+  cleared-is = rw (eq-eqb (length bank) 4096 whole)
+
+  pub opening-is : openedIn bank nominal rate soc ≡ record { answer = done; bank = withSlot (zeros 4096) 0 (slotOf fresh) }
+  unfolding openedAt
+  opening-is = rw (cleared-is, zeros-length, zeros-free, free-undamaged, free-not-open, served, kept)
+
+  rate-is : keptRate nominal rate ≡ rate
+  rate-is = kept-again nominal rate served kept
+
+  fresh-kept : Kept fresh
+  fresh-kept = opened-kept nominal rate soc served (ap (servedRate nominal) rate-is ∙ kept)
+
+  fresh-slot : length (slotOf fresh) ≡ 256
+  fresh-slot = slot-whole fresh (fresh-kept .whole)
+
+  pub opening-holds : Holds (withSlot (zeros 4096) 0 (slotOf fresh)) (opening nominal rate soc)
+  opening-holds = record {
+    feed = fresh;
+    whole = length-kept (zeros 4096) 0 zeros-length (omega arith) (slotOf fresh) fresh-slot;
+    there = same-slot (zeros 4096) 0 zeros-length (omega arith) (slotOf fresh) fresh-slot;
+    kept = fresh-kept;
+    keeps = rw rate-is at (opening-kept nominal rate soc served (ap (servedRate nominal) rate-is ∙ kept));
+  }
+
+-- ---- pushing
+
+-- a push answers as the history rule tells, and the bank keeps the history after it
+pub record Answers (o : Outcome) (t : Told) : Type 0 where
+  pub answer-is : o .answer ≡ t .answer
+  pub holds : Holds (o .bank) (t .history)
+
+module _ (bank : List ℕ) (s : Sample) (f : Feed) (whole : length bank ≡ 4096) (there : slotAt bank 0 ≡ slotOf f) (kept : Kept f) where
+  feed-is : feedOf (slotAt bank 0) ≡ f
+  feed-is = ap feedOf there ∙ feed-back f (kept .whole)
+
+  head-is : headOf (slotAt bank 0) ≡ f .head
+  unfolding feedOf
+  head-is = ap (λ (x : Feed). x .head) feed-is
+
+  undamaged : damaged (slotAt bank 0) ≡ false
+  undamaged = ap damaged there ∙ kept-undamaged f kept
+
+  not-free : isFree (slotAt bank 0) ≡ false
+  not-free = ap (λ (x : List ℕ). isFree x) there ∙ ap (λ (n : ℕ). eqb n 0) (slot-open f)
+
+  at-last : endOfTime (f .head) .due ≡ true → pushedAt bank 0 s ≡ record { answer = refused 8; bank = bank }
+  unfolding pushedAt
+  at-last e = rw (eq-eqb (length bank) 4096 whole, undamaged, not-free, head-is, e)
+
+  at-next : endOfTime (f .head) .due ≡ false → pushedAt bank 0 s ≡ record { answer = answered (historyOf (stored f s)); bank = withSlot bank 0 (slotOf (stored f s)) }
+  unfolding pushedAt
+  at-next e = rw (eq-eqb (length bank) 4096 whole, undamaged, not-free, head-is, e, feed-is)
+
+pub push-holds : (bank : List ℕ) (h : History) (s : Sample) → Holds bank h → Fits16 s → Answers (pushedAt bank 0 s) (told h s)
+push-holds bank h s k fits = go (endOfTime (k .feed .head) .due) refl
+  where
+    next-slot : length (slotOf (stored (k .feed) s)) ≡ 256
+    next-slot = slot-whole (stored (k .feed) s) (stored-kept (k .feed) s (k .kept) .whole)
+
+    go : (b : Bool) → endOfTime (k .feed .head) .due ≡ b → Answers (pushedAt bank 0 s) (told h s)
+    go true e =
+        rw (at-last bank s (k .feed) (k .whole) (k .there) (k .kept) e, told-last h s (last-same (k .feed) h (k .keeps) ∙ e))
+        (record { answer-is = refl; holds = k })
+    go false e =
+        rw (at-next bank s (k .feed) (k .whole) (k .there) (k .kept) e, told-on h s (last-same (k .feed) h (k .keeps) ∙ e))
+        (record {
+          answer-is = answer-kept (k .feed) h (k .keeps) s fits;
+          holds = record {
+            feed = stored (k .feed) s;
+            whole = length-kept bank 0 (k .whole) (omega arith) (slotOf (stored (k .feed) s)) next-slot;
+            there = same-slot bank 0 (k .whole) (omega arith) (slotOf (stored (k .feed) s)) next-slot;
+            kept = stored-kept (k .feed) s (k .kept);
+            keeps = still-keeps (k .feed) h (k .keeps) s fits;
+          };
+        })

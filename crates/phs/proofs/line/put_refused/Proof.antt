@@ -1,0 +1,23 @@
+-- `phs::line::put_refused` meets its contract: the form filled is the line. Assumes nothing.
+use native.Mathlib.Omega.{arith}
+use borrow.Author.Needs.{needs}
+use Rattle.phs.specs.Lines.{refusedLine}
+use Rattle.phs.proofs.Putting.{line-written}
+use Rattle.phs.proofs.line.put_refused.Statement.{statement}
+use Rattle.phs.proofs.line.put_refused.Tie as tie
+
+slice-aggregate-put : tie.Need-slice-aggregate-put
+slice-aggregate-put c = search needs
+
+put-requires : tie.Need-put-requires
+put-requires c κs = search needs
+
+same-length : tie.Need-same-length
+same-length c = search needs
+
+returns : tie.Need-returns
+unfolding refusedLine
+returns c = line-written (c .before .before .put .ensures) (omega arith) (c .before .before .before .before .before .before .pre)
+
+pub put-refused-spec : {M : Type 1} → statement M
+put-refused-spec = tie.close (tie.spec slice-aggregate-put put-requires same-length returns)

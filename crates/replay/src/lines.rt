@@ -1,0 +1,160 @@
+// The line of each answer, put into lent bytes from `at` on.
+use bank::Settled;
+use feed::Answer;
+use feed::Report;
+use model::Figures;
+use runs::Measured;
+use text::Word;
+use verdict::Judged;
+ghost use Prim.Native.Nat.{_+_, _≤_};
+ghost use lib.ListN.{length};
+
+// A line of a form with its words. `text::put` puts nothing where there is too little room: here there is always enough.
+fn put(form: &[u8], words: [Word; 11], out: &mut [u8], at: usize) -> usize
+    requires { ⌜ (at + 1024 ≤ length (now out)) × (length (now form) ≤ 64) ⌝ }
+    ensures { λ r. ⌜ r ≤ length (now (out .exit)) ⌝ }
+{
+    text::put(form, words, out, at)
+}
+
+// Three words and blanks.
+fn three(a: Word, b: Word, c: Word) -> [Word; 11] {
+    [
+        a,
+        b,
+        c,
+        Word::Blank,
+        Word::Blank,
+        Word::Blank,
+        Word::Blank,
+        Word::Blank,
+        Word::Blank,
+        Word::Blank,
+        Word::Blank,
+    ]
+}
+
+// A line with no words.
+fn put_plain(form: &[u8], out: &mut [u8], at: usize) -> usize
+    requires { ⌜ (at + 1024 ≤ length (now out)) × (length (now form) ≤ 64) ⌝ }
+    ensures { λ r. ⌜ r ≤ length (now (out .exit)) ⌝ }
+{
+    put(form, [Word::Blank; 11], out, at)
+}
+
+fn put_refused(n: u8, out: &mut [u8], at: usize) -> usize
+    requires { ⌜ at + 1024 ≤ length (now out) ⌝ }
+    ensures { λ r. ⌜ r ≤ length (now (out .exit)) ⌝ }
+{
+    let words = three(Word::Number(n as u64), Word::Blank, Word::Blank);
+    put(b"refused %\n", words, out, at)
+}
+
+pub(crate) fn put_settled(s: Settled, out: &mut [u8], at: usize) -> usize
+    requires { ⌜ at + 1024 ≤ length (now out) ⌝ }
+    ensures { λ r. ⌜ r ≤ length (now (out .exit)) ⌝ }
+{
+    match s {
+        Settled::Refused(n) => put_refused(n, out, at),
+        Settled::Done => put_plain(b"done\n", out, at),
+    }
+}
+
+pub(crate) fn put_answer(answer: Answer, out: &mut [u8], at: usize) -> usize
+    requires { ⌜ at + 1024 ≤ length (now out) ⌝ }
+    ensures { λ r. ⌜ r ≤ length (now (out .exit)) ⌝ }
+{
+    match answer {
+        Answer::Refused(n) => put_refused(n, out, at),
+        Answer::Taken => put_plain(b"taken\n", out, at),
+        Answer::Reported(r) => put(b"report % % % % % % % % % % %\n", report_words(r), out, at),
+    }
+}
+
+pub(crate) fn put_measured(m: Measured, out: &mut [u8], at: usize) -> usize
+    requires { ⌜ at + 1024 ≤ length (now out) ⌝ }
+    ensures { λ r. ⌜ r ≤ length (now (out .exit)) ⌝ }
+{
+    match m {
+        Measured::Refused(n) => put_refused(n, out, at),
+        Measured::Given(f) => put(b"figures % % % % % % % % %\n", figures_words(f), out, at),
+    }
+}
+
+pub(crate) fn put_judged(j: Judged, out: &mut [u8], at: usize) -> usize
+    requires { ⌜ at + 1024 ≤ length (now out) ⌝ }
+    ensures { λ r. ⌜ r ≤ length (now (out .exit)) ⌝ }
+{
+    match j {
+        Judged::Refused(n) => put_refused(n, out, at),
+        Judged::LeftOut => put_plain(b"left out\n", out, at),
+        Judged::Told(v) => {
+            let words = three(within(v.tve), within(v.fe), within(v.rfe));
+            put(b"verdict % % %\n", words, out, at)
+        }
+    }
+}
+
+// 1 within, 0 not.
+fn within(is_within: bool) -> Word {
+    if is_within {
+        Word::Number(1)
+    } else {
+        Word::Number(0)
+    }
+}
+
+// `bytes ` and two hexadecimal digits for each byte.
+pub(crate) fn put_bytes(bytes: &[u8], out: &mut [u8], at: usize) -> usize
+    requires { ⌜ (at + 1024 ≤ length (now out)) × (length (now bytes) ≤ 256) ⌝ }
+    ensures { λ r. ⌜ r ≤ length (now (out .exit)) ⌝ }
+{
+    let digits = text::put(b"bytes ", [Word::Blank; 11], out, at);
+    let end = text::put_hex(bytes, out, digits);
+    text::put(b"\n", [Word::Blank; 11], out, end)
+}
+
+// The bits of a float. A report's floats are quotients of whole numbers, so none is a NaN and the first case never happens.
+fn bits(x: f64) -> Word {
+    if x != x {
+        Word::Bits(0x7ff8000000000000)
+    } else {
+        Word::Bits(f64::to_bits(x))
+    }
+}
+
+fn whole(z: i32) -> Word {
+    Word::Whole(z as i64)
+}
+
+fn report_words(r: Report) -> [Word; 11] {
+    [
+        Word::Number(r.soc as u64),
+        Word::Number(r.frame as u64),
+        Word::Whole(r.re),
+        Word::Whole(r.im),
+        whole(r.d1),
+        whole(r.d2),
+        Word::Number(r.mark as u64),
+        bits(r.re_peak),
+        bits(r.im_peak),
+        bits(r.deviation),
+        bits(r.rocof),
+    ]
+}
+
+fn figures_words(f: Figures) -> [Word; 11] {
+    [
+        Word::Whole(f.re),
+        Word::Whole(f.im),
+        whole(f.d1),
+        whole(f.d2),
+        Word::Number(f.mark as u64),
+        bits(f.re_peak),
+        bits(f.im_peak),
+        bits(f.deviation),
+        bits(f.rocof),
+        Word::Blank,
+        Word::Blank,
+    ]
+}
