@@ -201,11 +201,11 @@ impl Head {
         ensures { λ r. ⌜ saidReport r ≡ reportWith self window ⌝ }
     {
         let centre = self.centre();
-        let frame = centre.index / self.spacing();
+        let frame = (centre.index / self.spacing()) as u8;
         let figures = measure(window, self.index as usize, nominal_of(self.nominal));
         Report {
             soc: centre.soc,
-            frame: frame as u8,
+            frame,
             re: figures.re,
             im: figures.im,
             d1: figures.d1,

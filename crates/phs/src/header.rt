@@ -38,10 +38,11 @@ pub fn read_header(h: &[u8]) -> Header
     if !(feed::served_rate(nominal, rate) | (rate == 0)) {
         return Header::Refused(7);
     }
+    let kept = feed::kept_rate(nominal, rate);
     Header::Opens {
         version,
         nominal,
-        rate: feed::kept_rate(nominal, rate),
+        rate: kept,
         soc: read_soc(h),
     }
 }

@@ -13,10 +13,9 @@ ghost use mathlib.Core.Path.{_≡_};
 ghost use Prim.Native.Nat.{_+_, _≤_, _<_};
 ghost use lib.ListN.{length};
 ghost use Rattle.bank.specs.Calls.{pushedAt};
-ghost use Rattle.phs.specs.declared.Stage.the-variants.{InSamples};
 ghost use Rattle.phs.specs.Header.{headed};
 ghost use Rattle.phs.specs.Lines.{lineRoom};
-ghost use Rattle.phs.specs.Stream.{started, keeping, sampled, begun, stepped, Reading, Finishing};
+ghost use Rattle.phs.specs.Stream.{started, readerAt, keeping, sampled, begun, stepped, Reading, Finishing};
 ghost use Rattle.phs.specs.Inside.{readerOf, Tells, Steps, Begins, Onward};
 
 // The room that any line has enough of.
@@ -66,13 +65,7 @@ struct Step {
 pub fn start() -> Reader
     ensures { λ r. ⌜ r ≡ started ⌝ }
 {
-    Reader {
-        stage: Stage::InHeader,
-        held: 0,
-        kept: [0; 11],
-        reports: 0,
-        samples: 0,
-    }
+    reader_at(Stage::InHeader, 0, 0)
 }
 
 // Reads the part for as long as there is room for a line, and measures it as one feed in slot 0 of the bank.
@@ -243,25 +236,26 @@ fn keep(r: Reader, b: u8) -> Reader
     next
 }
 
-// The reader after a whole header or sample: no byte is kept.
+// The reader after a whole header or sample.
 fn settle(t: Told) -> Reader
     ensures { λ r. ⌜ r ≡ readerOf t ⌝ }
 {
     if t.over {
-        return Reader {
-            stage: Stage::Over,
-            held: 0,
-            kept: [0; 11],
-            reports: t.reports,
-            samples: t.samples,
-        };
+        return reader_at(Stage::Over, t.reports, t.samples);
     }
+    reader_at(Stage::InSamples, t.reports, t.samples)
+}
+
+// A reader that keeps no byte.
+fn reader_at(stage: Stage, reports: u64, samples: u64) -> Reader
+    ensures { λ r. ⌜ r ≡ readerAt stage reports samples ⌝ }
+{
     Reader {
-        stage: Stage::InSamples,
+        stage,
         held: 0,
         kept: [0; 11],
-        reports: t.reports,
-        samples: t.samples,
+        reports,
+        samples,
     }
 }
 
@@ -319,6 +313,7 @@ fn take_sample(
         ⌝ }
 {
     let answer = bank::push(bank, 0, s);
+    let counted = std::num::wrapping_add_u64(samples, 1);
     match answer {
         Answer::Refused(number) => Told {
             over: true,
@@ -329,13 +324,13 @@ fn take_sample(
         Answer::Taken => Told {
             over: false,
             reports,
-            samples: std::num::wrapping_add_u64(samples, 1),
+            samples: counted,
             at,
         },
         Answer::Reported(report) => Told {
             over: false,
             reports: std::num::wrapping_add_u64(reports, 1),
-            samples: std::num::wrapping_add_u64(samples, 1),
+            samples: counted,
             at: line::put_report(report, out, at),
         },
     }

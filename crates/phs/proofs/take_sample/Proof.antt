@@ -8,6 +8,9 @@ use Rattle.phs.proofs.take_sample.Tie as tie
 push-requires : tie.Need-push-requires
 push-requires c κs = search needs
 
+wrapping-add-u64-requires : tie.Need-wrapping-add-u64-requires
+wrapping-add-u64-requires c κs = search needs
+
 enum-known-answer : tie.Need-enum-known-answer
 enum-known-answer c = search needs
 
@@ -17,17 +20,11 @@ put-refused-requires c κs = search needs
 enum-told : tie.Need-enum-told
 enum-told c = search needs
 
-wrapping-add-u64-requires : tie.Need-wrapping-add-u64-requires
-wrapping-add-u64-requires c κs = search needs
-
 enum-known-answer-2 : tie.Need-enum-known-answer-2
 enum-known-answer-2 c = search needs
 
 wrapping-add-u64-requires-2 : tie.Need-wrapping-add-u64-requires-2
 wrapping-add-u64-requires-2 c κs = search needs
-
-wrapping-add-u64-requires-3 : tie.Need-wrapping-add-u64-requires-3
-wrapping-add-u64-requires-3 c κs = search needs
 
 put-report-requires : tie.Need-put-report-requires
 put-report-requires c κs = search needs
@@ -40,10 +37,10 @@ same-length-2 c = search needs
 
 returns : tie.Need-returns
 returns c =
-    let start = c .before .before .before .before .before .before .before .before .before .before .before .before .before in
+    let start = c .before .before .before .before .before .before .before .before .before .before .before .before .before .before in
     let f : start .args .reports < 2 ^ 64 = search needs in
     let g : start .args .samples < 2 ^ 64 = search needs in
-    sample-refused (start .args .reports) (start .args .samples) _ _ (c .before .before .before .before .before .before .before .before .before .push .ensures) f g (c .before .before .before .before .before .answer .given .1) (c .before .before .put-refused .ensures)
+    sample-refused (start .args .reports) (start .args .samples) _ _ (c .before .before .before .before .before .before .before .before .before .before .push .ensures) f g (c .before .before .before .before .before .answer .given .1) (c .before .before .put-refused .ensures)
 
 same-length-3 : tie.Need-same-length-3
 same-length-3 c = search needs
@@ -52,7 +49,7 @@ returns-2 : tie.Need-returns-2
 returns-2 c =
     let start = c .before .before .before .before .before .before .before .before .before in
     let f : start .args .reports < 2 ^ 64 = search needs in
-    sample-taken (start .args .reports) (start .args .samples) _ _ (c .before .before .before .before .before .push .ensures) f (c .before .enum-told .given .1) (c .wrapping-add-u64 .ensures)
+    sample-taken (start .args .reports) (start .args .samples) _ _ (c .before .before .before .before .before .push .ensures) f (c .enum-told .given .1) (c .before .before .wrapping-add-u64 .ensures)
 
 same-length-4 : tie.Need-same-length-4
 same-length-4 c = search needs
@@ -63,21 +60,20 @@ same-length-5 c = search needs
 returns-3 : tie.Need-returns-3
 returns-3 c =
     let start = c .before .before .before .before .before .before .before .before .before .before .before .before .before .before .before in
-    sample-reported (start .args .reports) (start .args .samples) _ _ (c .before .before .before .before .before .before .before .before .before .before .before .push .ensures) (c .before .before .before .before .before .before .before .answer2 .given .1)
-    (c .before .before .before .before .before .wrapping-add-u642 .ensures) (c .before .before .before .before .wrapping-add-u643 .ensures) (c .before .before .put-report .ensures)
+    sample-reported (start .args .reports) (start .args .samples) _ _ (c .before .before .before .before .before .before .before .before .before .before .before .push .ensures) (c .before .before .before .before .before .before .answer2 .given .1)
+    (c .before .before .before .before .wrapping-add-u642 .ensures) (c .before .before .before .before .before .before .before .before .wrapping-add-u64 .ensures) (c .before .before .put-report .ensures)
 
 pub take-sample-spec : {M : Type 1} → statement M
 take-sample-spec =
     tie.close
     (tie.spec
     push-requires
+    wrapping-add-u64-requires
     enum-known-answer
     put-refused-requires
     enum-told
-    wrapping-add-u64-requires
     enum-known-answer-2
     wrapping-add-u64-requires-2
-    wrapping-add-u64-requires-3
     put-report-requires
     same-length
     same-length-2

@@ -19,8 +19,8 @@ use Rattle.feed.proofs.Feed.window.Tie as tie
 
 abbrev Inv-loop : tie.InvT-loop
 Inv-loop self window₀ place₀ i₀ window place i =
-    (i ≤ 31) × (length window ≡ 31) × (place ≡ (place₀ + i) % 31)
-    × ((j : ℕ) → j < i → getD window j noSample ≡ getD (samplesOf 31 (self .places)) ((place₀ + j) % 31) noSample)
+    (i ≤ 31) × (length window ≡ 31) × (place ≡ (self .head .place + i) % 31)
+    × ((j : ℕ) → j < i → getD window j noSample ≡ getD (samplesOf 31 (self .places)) ((self .head .place + j) % 31) noSample)
 
 abbrev μ-loop : tie.MeasureT-loop
 μ-loop self window₀ place₀ i₀ window place i = 31 - i

@@ -14,7 +14,8 @@ returns c =
 sub-t4 : tie.Need-sub-t4
 sub-t4 c =
     let start = c .before .before .before in
-    later (start .args .self) (sound (start .args .self) (start .pre .0)) (start .pre .1) (c .before .if1 .left)
+    let l = later (start .args .self) (sound (start .args .self) (start .pre .0)) (start .pre .1) (c .before .if1 .left) in
+    omega arith
 
 sampling-requires : tie.Need-sampling-requires
 sampling-requires c κs = search needs

@@ -1,4 +1,6 @@
 -- `Head::is_due` is the definition's own test: fewer than 30 held, or the remainder of the centre's index by D. Assumes nothing.
+use Prim.Native.Nat.{_<_}
+use native.Mathlib.Omega.{arith}
 use borrow.Author.Tests.{lt-leb, le-leb}
 use Rattle.feed.specs.Newest.{dueWith}
 use Rattle.feed.proofs.Sound.{sound}
@@ -9,7 +11,9 @@ use Rattle.feed.proofs.Head.is_due.Tie as tie
 
 returns : tie.Need-returns
 unfolding dueWith
-returns c = rw (lt-leb 30 _ (c .if1 .taken))
+returns c =
+    let few : c .before .before .args .self .held < 30 = omega arith in
+    rw (lt-leb 30 _ few)
 
 centre-requires : tie.Need-centre-requires
 centre-requires c κs = search needs

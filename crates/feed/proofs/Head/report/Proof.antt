@@ -32,6 +32,15 @@ div-frame c =
     let start = c .before .before .before in
     rw (c .before .spacing .ensures) (spacing-positive _ _ (sound (start .args .self) (start .pre .0) .rated))
 
+cast-frame : tie.Need-cast-frame
+cast-frame c =
+    let start = c .before .before .before in
+    let h = start .args .self in
+    let v = sound h (start .pre .0) .rated in
+    let i : centreOf h .index < samplingOf (h .nominal) = mod-lt (centreNumber h) (omega (arith, v .low)) in
+    rw (c .before .before .centre .ensures, c .before .spacing .ensures)
+    (record { fits = omega (arith, frame-below (h .nominal) (h .rate) (centreOf h .index) v i, v .fast) })
+
 cast-measure : tie.Need-cast-measure
 cast-measure c = search needs
 
@@ -40,15 +49,6 @@ nominal-of-requires c κs = search needs
 
 measure-requires : tie.Need-measure-requires
 measure-requires c κs = search needs
-
-cast-t9 : tie.Need-cast-t9
-cast-t9 c =
-    let start = c .before .before .before .before .before .before in
-    let h = start .args .self in
-    let v = sound h (start .pre .0) .rated in
-    let i : centreOf h .index < samplingOf (h .nominal) = mod-lt (centreNumber h) (omega (arith, v .low)) in
-    rw (c .before .before .before .before .before .centre .ensures, c .before .before .before .before .spacing .ensures)
-    (record { fits = omega (arith, frame-below (h .nominal) (h .rate) (centreOf h .index) v i, v .fast) })
 
 returns : tie.Need-returns
 unfolding reportWith tagged
@@ -81,8 +81,8 @@ report-spec =
     centre-requires
     spacing-requires
     div-frame
+    cast-frame
     cast-measure
     nominal-of-requires
     measure-requires
-    cast-t9
     returns)

@@ -1,8 +1,9 @@
 -- `place_bytes` answers a sample's six bytes: the two of each part's bits. Assumes nothing.
+use mathlib.Core.Path.{_≡_, ap, _∙_}
 use mir.Syntax.{w16}
 use mir.Val.{SFits}
 use mir.Facts.{toZ-ofZ}
-use Rattle.feed.specs.Places.{placeOf}
+use Rattle.feed.specs.Places.{bits16, placeOf}
 use borrow.Author.Needs.{needs}
 use Rattle.feed.proofs.places.place_bytes.Statement.{statement}
 use Rattle.feed.proofs.places.place_bytes.Tie as tie
@@ -38,17 +39,14 @@ returns : tie.Need-returns
 unfolding placeOf
 returns c =
     let s = c .before .before .before .before .before .before .args .s in
-    let a : SFits w16 (s .a) = search needs in
-    let b : SFits w16 (s .b) = search needs in
-    let d : SFits w16 (s .c) = search needs in
-    rw (
-      c .before .before .before .before .bits .ensures,
-      c .before .before .bits2 .ensures,
-      c .bits3 .ensures,
-      toZ-ofZ {w = w16} {z = s .a} a,
-      toZ-ofZ {w = w16} {z = s .b} b,
-      toZ-ofZ {w = w16} {z = s .c} d,
-    )
+    let fits-a : SFits w16 (s .a) = search needs in
+    let fits-b : SFits w16 (s .b) = search needs in
+    let fits-c : SFits w16 (s .c) = search needs in
+    let bits-a : c .before .before .before .before .bits .result ≡ bits16 (s .a) =
+    c .before .before .before .before .bits .ensures ∙ ap bits16 (toZ-ofZ {w = w16} {z = s .a} fits-a) in
+    let bits-b : c .before .before .bits2 .result ≡ bits16 (s .b) = c .before .before .bits2 .ensures ∙ ap bits16 (toZ-ofZ {w = w16} {z = s .b} fits-b) in
+    let bits-c : c .bits3 .result ≡ bits16 (s .c) = c .bits3 .ensures ∙ ap bits16 (toZ-ofZ {w = w16} {z = s .c} fits-c) in
+    rw (bits-a, bits-b, bits-c)
 
 pub place-bytes-spec : {M : Type 1} → statement M
 place-bytes-spec =
