@@ -17,6 +17,8 @@ use Rattle.model.specs.Report.{figuresAt, threePhase}
 use Rattle.feed.specs.Tags.{nominalOf}
 use Rattle.runs.specs.declared.Measured.the-variants.{Refused as MeasuredRefused, Given}
 use Rattle.runs.specs.Runs.{sampleAt, measured, refused as runRefused, said as runSaid}
+use Rattle.phs.specs.declared.header.Header.the-variants.{Refused as HeaderRefused, Opens}
+use Rattle.phs.specs.Header.{headed, refused as headerRefused, said as headerSaid}
 use Rattle.verdict.specs.declared.judging.Judged.{Judged}
 use Rattle.verdict.specs.declared.judging.Judged.the-variants.{Refused as JudgedRefused, LeftOut, Told}
 use Rattle.verdict.specs.declared.judging.Verdict.{Verdict}
@@ -55,7 +57,7 @@ judged-granted true v = record { answer = LeftOut; says = refl; no-refusal = λ 
 judged-granted false v = record { answer = Told v; says = refl; no-refusal = λ n e. let z : _≡_ {A = ℕ} 0 1 = cc in omega arith }
 
 pub condition-a : ConditionA
-unfolding cleared openedAt pushedAt closedAt judgement measured
+unfolding cleared openedAt pushedAt closedAt judgement measured headed
 condition-a = record {
   clearing = λ bank. refuses settled SettledRefused (λ n. refl) _ bank _ Done refl tt;
   opening = λ bank slot nominal rate soc. refuses settled SettledRefused (λ n. refl) _ bank _ Done refl tt;
@@ -69,4 +71,6 @@ condition-a = record {
   measuring = λ a b c centre nominal.
       let f = figuresAt threePhase (nominalOf nominal) (sampleAt a b c) centre in
       answers runSaid runRefused MeasuredRefused (λ n. refl) (λ m n e. cc) _ _ (Given f) refl (λ n e. let z : _≡_ {A = ℕ} 0 1 = cc in omega arith);
+  heading = λ header.
+      answers headerSaid headerRefused HeaderRefused (λ n. refl) (λ m n e. cc) _ _ (Opens _ _ _ _) refl (λ n e. let z : _≡_ {A = ℕ} 0 1 = cc in omega arith);
 }

@@ -8,6 +8,7 @@ use Rattle.refusals.specs.Refusals.{Refusal}
 use Rattle.feed.specs.Answers.{Said, refused, said}
 use lib.IntN.{ℤ}
 use Rattle.runs.specs.Runs.{runRefusals, Measuring, refused as runRefused, said as runSaid}
+use Rattle.phs.specs.Header.{headerRefusals, Heading, refused as headerRefused, said as headerSaid}
 use Rattle.verdict.specs.declared.errors.Device.{Device}
 use Rattle.verdict.specs.declared.errors.Reference.{Reference}
 use Rattle.verdict.specs.Judging.{judgeRefusals, Judging, refused as verdictRefused, said as verdictSaid}
@@ -54,3 +55,5 @@ pub record ConditionA : Type 0 where
   -- whole run 6, 16, 17
   pub measuring : (a b c : List ℤ) (centre nominal : ℕ)
       → Answers runSaid runRefused (runRefusals a b c centre nominal) (Measuring a b c centre nominal)
+  -- header 14, 12, 13, 6, 7
+  pub heading : (header : List ℕ) → Answers headerSaid headerRefused (headerRefusals header) (Heading header)

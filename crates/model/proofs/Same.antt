@@ -26,7 +26,7 @@ turned-same m n i k d p q e = turn m ∙ ap (λ (j : ℕ). j % 15) p ∙ later-s
     turn j = omega arith
 
 -- one sample against three entries
-three-same : (table : List ℤ) (s : Sample) (m n : ℕ) → m % 15 ≡ n % 15 → three table s m ≡ three table s n
+pub three-same : (table : List ℤ) (s : Sample) (m n : ℕ) → m % 15 ≡ n % 15 → three table s m ≡ three table s n
 unfolding three
 three-same table s m n e =
     let f = later-same m n 10 e in

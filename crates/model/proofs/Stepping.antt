@@ -1,6 +1,6 @@
 -- One step, by the sign of im; the steps that are left, one fewer; and how large both parts grow: from step to step by a floor at most, so that
 -- they stay within 2^60. Assumes nothing.
-use mathlib.Core.Path.{_≡_, sym, _∙_, ap, subst}
+use mathlib.Core.Path.{_≡_, refl, sym, _∙_, ap, subst}
 use mathlib.Core.Bool.{Bool, true, false, cond}
 use Prim.Native.Nat.{ℕ, zero, suc, _+_, _-_, _^_, _≤_, _<_}
 use native.Mathlib.Nat.{le-refl, le-trans, add-zero, add-suc, not-suc-le-zero}
@@ -9,26 +9,44 @@ use lib.Dec.{lit≤}
 use lib.Pow.{pow-pos}
 use lib.IntN.{ℤ, pos, natAbs, _+ℤ_, _-ℤ_}
 use lib.Signed.{ltZ}
+use mir.Syntax.{w64}
+use mir.Val.{SFits, toZ, ofZ}
+use mir.Facts.{toZ-ofZ}
 use Rattle.ints.specs.Whole.{floorDiv}
-use Rattle.ints.proofs.Cases.{when-true, when-false}
 use Rattle.ints.proofs.Size.{size-floor, size-add, size-minus, mag-le, div-mono}
-use Rattle.model.specs.Angle.{step, steps, above, below}
+use Rattle.model.specs.Angle.{angleOf, step, steps, above, below}
 use Rattle.model.specs.Bounds.{cap, Sized, Within}
 use Rattle.model.specs.declared.angle.Turning.{Turning}
 
 -- ---- the step, by the sign of im
 module _ (i : ℕ) (v : Turning) where
-  pub step-above : ltZ (pos 0) (v .im) ≡ true → step i v ≡ above i v
+  -- the sign chooses the step part by part
+  pub step-chosen : let t = ltZ (pos 0) (v .im) in let u = ltZ (v .im) (pos 0) in
+      _≡_ {A = Turning}
+      (record {
+        re = cond t ((above i v) .re) (cond u ((below i v) .re) (v .re));
+        im = cond t ((above i v) .im) (cond u ((below i v) .im) (v .im));
+        angle = angleOf (cond t ((above i v) .angle .parts) (cond u ((below i v) .angle .parts) (v .angle .parts)));
+      })
+      (step i v)
   unfolding step
-  step-above e = when-true (ltZ (pos 0) (v .im)) _ _ e
+  step-chosen = pick (ltZ (pos 0) (v .im)) (ltZ (v .im) (pos 0))
+    where
+      pick : (t u : Bool) → _≡_ {A = Turning}
+          (record {
+            re = cond t ((above i v) .re) (cond u ((below i v) .re) (v .re));
+            im = cond t ((above i v) .im) (cond u ((below i v) .im) (v .im));
+            angle = angleOf (cond t ((above i v) .angle .parts) (cond u ((below i v) .angle .parts) (v .angle .parts)));
+          })
+          (cond t (above i v) (cond u (below i v) v))
+      pick true u = refl
+      pick false true = refl
+      pick false false = refl
 
-  pub step-below : ltZ (pos 0) (v .im) ≡ false → ltZ (v .im) (pos 0) ≡ true → step i v ≡ below i v
-  unfolding step
-  step-below e f = when-false (ltZ (pos 0) (v .im)) _ _ e ∙ when-true (ltZ (v .im) (pos 0)) _ _ f
-
-  pub step-still : ltZ (pos 0) (v .im) ≡ false → ltZ (v .im) (pos 0) ≡ false → step i v ≡ v
-  unfolding step
-  step-still e f = when-false (ltZ (pos 0) (v .im)) _ _ e ∙ when-false (ltZ (v .im) (pos 0)) _ _ f
+-- what is read back of numbers that fit is what was handed on
+pub handed-on : (v : Turning) → SFits w64 (v .re) → SFits w64 (v .im)
+    → _≡_ {A = Turning} (record { re = toZ w64 (ofZ w64 (v .re)); im = toZ w64 (ofZ w64 (v .im)); angle = v .angle }) v
+handed-on v f g = λ j. record { re = toZ-ofZ f j; im = toZ-ofZ g j; angle = v .angle }
 
 -- ---- the steps that are left
 pub steps-none : (left : ℕ) (v : Turning) → left ≡ 0 → steps left v ≡ v

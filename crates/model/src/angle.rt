@@ -1,12 +1,13 @@
 // Document 01, "The angle": the phase of a positive sequence, by 24 steps.
 use crate::filter::Phasor;
 ghost use mathlib.Core.Path.{_≡_};
+ghost use mathlib.Core.Bool.{cond};
 ghost use Prim.Native.Nat.{_-_, _^_, _≤_, _<_};
 ghost use lib.IntN.{natAbs};
 ghost use lib.Dec.{ltb};
 ghost use Rattle.ints.specs.Whole.{floorDiv};
-ghost use Rattle.model.specs.Angle.{gains, loses, step, steps, turned, scaled, silent, phaseOf, Making};
-ghost use Rattle.model.specs.Bounds.{Sized, Small, Within};
+ghost use Rattle.model.specs.Angle.{angleOf, gains, loses, arctan, arctans, step, steps, turned, scaled, silent, phaseOf, Making};
+ghost use Rattle.model.specs.Bounds.{Sized, Small, cap};
 
 // A whole number of 2^32nds of a turn, kept modulo 2^32.
 pub struct Angle {
@@ -91,49 +92,73 @@ fn floor_shift(z: i64, i: usize) -> i64
     z >> i
 }
 
-// Step i, on what the step before it left.
-fn one_step(v: Turning, i: usize) -> Turning
-    requires { ⌜ i < 24 ⌝ }
+// One of three numbers, by two tests.
+fn chosen(above: bool, below: bool, x: i64, y: i64, z: i64) -> i64
+    ensures { λ r. ⌜ r ≡ cond above x (cond below y z) ⌝ }
+{
+    if above {
+        return x;
+    }
+    if below { y } else { z }
+}
+
+// One of three angles' parts, by two tests.
+fn chosen_parts(above: bool, below: bool, x: u32, y: u32, z: u32) -> u32
+    ensures { λ r. ⌜ r ≡ cond above x (cond below y z) ⌝ }
+{
+    if above {
+        return x;
+    }
+    if below { y } else { z }
+}
+
+// Step i, on what the step before it left, where a is A(i). Both outcomes are at hand before the sign of im chooses, so that no branch is guessed.
+fn one_step(v: Turning, i: usize, a: u32) -> Turning
+    requires { ⌜ (i < 24) × (a ≡ arctan i) ⌝ }
     requires { ⌜ Sized (2 ^ 60) (v .re) (v .im) ⌝ }
     ensures { λ r. ⌜ r ≡ step i v ⌝ }
 {
     let re = v.re;
     let im = v.im;
     let angle = v.angle;
-    let a = ARCTAN[i];
     let re_part = floor_shift(re, i);
     let im_part = floor_shift(im, i);
-    if im > 0 {
-        let x = re + im_part;
-        let y = im - re_part;
-        Turning {
-            re: x,
-            im: y,
-            angle: angle.more(a),
-        }
-    } else if im < 0 {
-        let x = re - im_part;
-        let y = im + re_part;
-        Turning {
-            re: x,
-            im: y,
-            angle: angle.fewer(a),
-        }
-    } else {
-        v
+    let re_above = re + im_part;
+    let im_above = im - re_part;
+    let re_below = re - im_part;
+    let im_below = im + re_part;
+    let more = angle.more(a);
+    let fewer = angle.fewer(a);
+    let above = im > 0;
+    let below = im < 0;
+    let parts = chosen_parts(above, below, more.parts, fewer.parts, angle.parts);
+    Turning {
+        re: chosen(above, below, re_above, re_below, re),
+        im: chosen(above, below, im_above, im_below, im),
+        angle: Angle { parts },
     }
 }
 
-// The steps that are left, from 24 down to none.
-fn steps_left(left: usize, v: Turning) -> Turning
+// The angle's parts after the steps that are left, from 24 down to none. It takes and answers plain numbers, so that it runs as a loop.
+fn steps_left(left: usize, re: i64, im: i64, parts: u32, table: &[u32; 24]) -> u32
     requires { ⌜ left ≤ 24 ⌝ }
-    requires { ⌜ Within (24 - left) v ⌝ }
-    ensures { λ r. ⌜ r ≡ steps left v ⌝ }
+    requires { ⌜ Sized (cap (24 - left)) re im ⌝ }
+    requires { ⌜ now table ≡ arctans ⌝ }
+    ensures { λ r. ⌜ r ≡ (steps left (record { re = re; im = im; angle = angleOf parts })) .angle .parts ⌝ }
 {
     if left == 0 {
-        v
+        parts
     } else {
-        steps_left(left - 1, one_step(v, 24 - left))
+        let i = 24 - left;
+        let a = table[i];
+        let held = Turning {
+            re,
+            im,
+            angle: Angle { parts },
+        };
+        let v = one_step(held, i, a);
+        let angle = v.angle;
+        steps_left(left - 1, v.re, v.im, angle.parts, table)
     }
 }
 
@@ -215,7 +240,12 @@ pub(crate) fn phase_of(p: Phasor, limit: u32) -> Phase
             none: true,
         };
     }
-    let v = steps_left(24, first_quadrant(times_65536(p)));
-    let angle = v.angle;
-    Phase { angle, none: false }
+    let v = first_quadrant(times_65536(p));
+    let base = v.angle;
+    let arctans = ARCTAN;
+    let parts = steps_left(24, v.re, v.im, base.parts, &arctans);
+    Phase {
+        angle: Angle { parts },
+        none: false,
+    }
 }

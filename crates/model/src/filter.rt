@@ -1,9 +1,9 @@
 // Document 01, "The filter": the positive sequence of 29 samples.
 ghost use mathlib.Core.Path.{_≡_};
-ghost use Prim.Native.Nat.{_+_, _*_, _≤_, _<_};
+ghost use Prim.Native.Nat.{_+_, _*_, _%_, _≤_, _<_};
 ghost use lib.IntN.{pos, natAbs, _*ℤ_};
 ghost use Rattle.model.specs.Filter.{weight, entry, three, weighted, positive, windowed};
-ghost use Rattle.model.specs.Bounds.{Tabled, Small};
+ghost use Rattle.model.specs.Bounds.{Tabled, Sized, Small};
 
 // One sample of the three phases.
 pub struct Sample {
@@ -16,6 +16,12 @@ pub struct Sample {
 pub struct Phasor {
     pub re: i64,
     pub im: i64,
+}
+
+// Both sums over the samples: with the cosines, and the same with the sines.
+struct Sums {
+    cosine: i64,
+    sine: i64,
 }
 
 // round(16384 × cos of 2πn/15)
@@ -64,35 +70,59 @@ fn weight_of(j: usize) -> usize
     if j < 15 { j + 1 } else { 29 - j }
 }
 
-// One phase of a sample times entry n of a table, n taken mod 15.
+// The entry after entry n; after the last comes the first.
+fn one_on(n: usize) -> usize
+    requires { ⌜ n < 15 ⌝ }
+    ensures { λ r. ⌜ r ≡ (n + 1) % 15 ⌝ }
+{
+    if n < 14 { n + 1 } else { 0 }
+}
+
+// Five entries on: 120 degrees.
+fn five_on(n: usize) -> usize
+    requires { ⌜ n < 15 ⌝ }
+    ensures { λ r. ⌜ r ≡ (n + 5) % 15 ⌝ }
+{
+    if n < 10 { n + 5 } else { n - 10 }
+}
+
+// Ten entries on, which is five back.
+fn ten_on(n: usize) -> usize
+    requires { ⌜ n < 15 ⌝ }
+    ensures { λ r. ⌜ r ≡ (n + 10) % 15 ⌝ }
+{
+    if n < 5 { n + 10 } else { n - 5 }
+}
+
+// One phase of a sample times entry n of a table.
 fn times_entry(x: i16, table: &[i64; 15], n: usize) -> i64
+    requires { ⌜ n < 15 ⌝ }
     requires { ⌜ Tabled (now table) ⌝ }
     ensures is { λ r. ⌜ r ≡ x *ℤ entry (now (table .entry)) n ⌝ }
     ensures small { λ r. ⌜ natAbs r ≤ 536870912 ⌝ }
 {
     let z = x as i64;
-    let i = n % 15;
-    let e = table[i];
+    let e = table[n];
     z * e
 }
 
 // A sample against three entries of a table, five apart: 120 degrees.
 fn three_entries(s: Sample, table: &[i64; 15], n: usize) -> i64
-    requires { ⌜ n < 1000 ⌝ }
+    requires { ⌜ n < 15 ⌝ }
     requires { ⌜ Tabled (now table) ⌝ }
     ensures is { λ r. ⌜ r ≡ three (now (table .entry)) s n ⌝ }
     ensures small { λ r. ⌜ natAbs r ≤ 1610612736 ⌝ }
 {
     let a = times_entry(s.a, table, n);
-    let b = times_entry(s.b, table, n + 10);
-    let c = times_entry(s.c, table, n + 5);
+    let b = times_entry(s.b, table, ten_on(n));
+    let c = times_entry(s.c, table, five_on(n));
     let ab = a + b;
     ab + c
 }
 
-// One term of the sum: the sample at offset j - 14, whose index is n, times its weight.
+// One term of a sum: the sample at offset j - 14, which meets entry n, times its weight.
 fn term_of(s: Sample, table: &[i64; 15], n: usize, j: usize) -> i64
-    requires { ⌜ n < 1000 ⌝ }
+    requires { ⌜ n < 15 ⌝ }
     requires { ⌜ j < 29 ⌝ }
     requires { ⌜ Tabled (now table) ⌝ }
     ensures is { λ r. ⌜ r ≡ pos (weight j) *ℤ three (now (table .entry)) s n ⌝ }
@@ -103,22 +133,28 @@ fn term_of(s: Sample, table: &[i64; 15], n: usize, j: usize) -> i64
     g * x
 }
 
-// The weighted sum over 29 samples, the first of which has index n.
-fn weighted_sum(samples: [Sample; 29], table: &[i64; 15], n: usize) -> i64
+// The weighted sums over 29 samples, the first of which meets entry n: both in one pass, since they share the entries' places and the weights.
+fn weighted_sums(samples: [Sample; 29], cosines: &[i64; 15], sines: &[i64; 15], n: usize) -> Sums
     requires { ⌜ n < 15 ⌝ }
-    requires { ⌜ Tabled (now table) ⌝ }
-    ensures is { λ r. ⌜ r ≡ weighted (now (table .entry)) (windowed samples n) (n + 14) ⌝ }
-    ensures small { λ r. ⌜ natAbs r ≤ 362387865600 ⌝ }
+    requires { ⌜ Tabled (now cosines) × Tabled (now sines) ⌝ }
+    ensures cosine { λ r. ⌜ r .cosine ≡ weighted (now (cosines .entry)) (windowed samples n) (n + 14) ⌝ }
+    ensures sine { λ r. ⌜ r .sine ≡ weighted (now (sines .entry)) (windowed samples n) (n + 14) ⌝ }
+    ensures small { λ r. ⌜ Sized 362387865600 (r .cosine) (r .sine) ⌝ }
 {
-    let mut sum: i64 = 0;
+    let mut cosine: i64 = 0;
+    let mut sine: i64 = 0;
+    let mut m = n;
     let mut j = 0;
     while j < 29 {
         let s = samples[j];
-        let x = term_of(s, table, n + j, j);
-        sum = sum + x;
+        let x = term_of(s, cosines, m, j);
+        let y = term_of(s, sines, m, j);
+        cosine = cosine + x;
+        sine = sine + y;
+        m = one_on(m);
         j += 1;
     }
-    sum
+    Sums { cosine, sine }
 }
 
 // The positive sequence at the centre of 29 samples, the first of which has this index.
@@ -129,8 +165,9 @@ pub(crate) fn positive_sequence(samples: [Sample; 29], index: usize) -> Phasor
     let n = index % 15;
     let cosines = COS;
     let sines = SIN;
-    let re = weighted_sum(samples, &cosines, n);
-    let minus = weighted_sum(samples, &sines, n);
+    let sums = weighted_sums(samples, &cosines, &sines, n);
+    let re = sums.cosine;
+    let minus = sums.sine;
     let im = -minus;
     Phasor { re, im }
 }

@@ -1,25 +1,21 @@
--- `one_step` is the step: both parts are within 2^60, so no sum and no difference overflows, and the tests read the sign of im. Assumes nothing.
-use mathlib.Core.Path.{_≡_, sym, _∙_, ap, subst}
-use mathlib.Core.Bool.{true, false}
-use Prim.Native.Nat.{ℕ, _^_, _≤_}
-use lib.IntN.{ℤ, pos, natAbs, _+ℤ_, _-ℤ_}
+-- `one_step` is the step: both parts are within 2^60, so no sum and no difference overflows, and the sign of im chooses each part as it chooses
+-- the step. Assumes nothing.
+use mathlib.Core.Path.{_≡_, _∙_, ap}
+use mathlib.Core.Bool.{cond}
+use Prim.Native.Nat.{ℕ, _^_}
+use lib.IntN.{ℤ, pos}
 use lib.Signed.{ltZ}
 use mir.Syntax.{w64}
-use mir.Val.{toZ, ofZ}
+use mir.Val.{SFits, ofZ}
+use mir.Facts.{toZ-ofZ}
 use Rattle.ints.specs.Whole.{floorDiv}
 use Rattle.ints.proofs.Signed.{Exp, whole, local, shift, _⊕_, _⊖_, at, fits, within}
-use Rattle.model.specs.Angle.{arctan}
+use Rattle.model.specs.Angle.{gains, loses}
 use Rattle.model.specs.declared.angle.Turning.{Turning}
-use Rattle.model.proofs.Stepping.{step-above, step-below, step-still}
+use Rattle.model.proofs.Stepping.{step-chosen}
 use borrow.Author.Needs.{needs}
 use Rattle.model.proofs.angle.one_step.Statement.{statement}
 use Rattle.model.proofs.angle.one_step.Tie as tie
-
-mul-a : tie.Need-mul-a
-mul-a c = search needs
-
-array-read-a : tie.Need-array-read-a
-array-read-a c = search needs
 
 floor-shift-requires : tie.Need-floor-shift-requires
 floor-shift-requires c κs = search needs
@@ -56,64 +52,59 @@ module _ (c : tie.After-floor-shift2) where
   abbrev im-part : Exp w64
   im-part = local (ofZ w64 (c .floor-shift2 .result)) (floorDiv (v .im) (2 ^ i)) (2 ^ 60) (ap (ofZ w64) im-floor) (within (shift im i))
 
-  -- a test of what is read is a test of im
-  read-im : (P : ℤ → Type 0) → P (toZ w64 (ofZ w64 (v .im))) → P (v .im)
-  read-im P h = subst P (at im tt) h
+add-re-above : tie.Need-add-re-above
+add-re-above c = fits (re c ⊕ im-part c) tt
 
-add-x : tie.Need-add-x
-add-x c = fits (re (c .before) ⊕ im-part (c .before)) tt
+sub-im-above : tie.Need-sub-im-above
+sub-im-above c = fits (im c ⊖ re-part c) tt
 
-sub-y : tie.Need-sub-y
-sub-y c = fits (im (c .before) ⊖ re-part (c .before)) tt
+sub-re-below : tie.Need-sub-re-below
+sub-re-below c = fits (re c ⊖ im-part c) tt
+
+add-im-below : tie.Need-add-im-below
+add-im-below c = fits (im c ⊕ re-part c) tt
 
 more-requires : tie.Need-more-requires
 more-requires c κs = search needs
 
-sub-x : tie.Need-sub-x
-sub-x c = fits (re (c .before .before) ⊖ im-part (c .before .before)) tt
-
-add-y : tie.Need-add-y
-add-y c = fits (im (c .before .before) ⊕ re-part (c .before .before)) tt
-
 fewer-requires : tie.Need-fewer-requires
 fewer-requires c κs = search needs
 
+chosen-parts-requires : tie.Need-chosen-parts-requires
+chosen-parts-requires c κs = search needs
+
+chosen-requires : tie.Need-chosen-requires
+chosen-requires c κs = search needs
+
+chosen-requires-2 : tie.Need-chosen-requires-2
+chosen-requires-2 c κs = search needs
+
 returns : tie.Need-returns
-unfolding arctan
 returns c =
-    let b = c .before .before in
-    let up = read-im b (λ (z : ℤ). ltZ (pos 0) z ≡ true) (c .before .if1 .taken) in
-    (λ j. record { re = at (re b ⊕ im-part b) tt j; im = at (im b ⊖ re-part b) tt j; angle = c .more .ensures j }) ∙ sym (step-above (i b) (v b) up)
-
-returns-2 : tie.Need-returns-2
-unfolding arctan
-returns-2 c =
-    let b = c .before .before .before in
-    let not-up = read-im b (λ (z : ℤ). ltZ (pos 0) z ≡ false) (c .before .before .if1 .left) in
-    let down = read-im b (λ (z : ℤ). ltZ z (pos 0) ≡ true) (c .before .if2 .taken) in
-    (λ j. record { re = at (re b ⊖ im-part b) tt j; im = at (im b ⊕ re-part b) tt j; angle = c .fewer .ensures j }) ∙ sym (step-below (i b) (v b) not-up down)
-
-returns-3 : tie.Need-returns-3
-returns-3 c =
-    let b = c .before .before in
-    let not-up = read-im b (λ (z : ℤ). ltZ (pos 0) z ≡ false) (c .before .if1 .left) in
-    let not-down = read-im b (λ (z : ℤ). ltZ z (pos 0) ≡ false) (c .if2 .left) in
-    sym (step-still (i b) (v b) not-up not-down)
+    let b = c .before .before .before .before .before in
+    let a-is = start b .pre .0 .1 in
+    let re-fits : SFits w64 (c .before .chosen .result) = search needs in
+    let im-fits : SFits w64 (c .chosen2 .result) = search needs in
+    let re-is = toZ-ofZ re-fits ∙ c .before .chosen .ensures ∙ λ j. cond (ltZ (pos 0) (at (im b) tt j)) (at (re b ⊕ im-part b) tt j) (cond (ltZ (at (im b) tt j) (pos 0)) (at (re b ⊖ im-part b) tt j) (at (re b) tt j)) in
+    let im-is = toZ-ofZ im-fits ∙ c .chosen2 .ensures ∙ λ j. cond (ltZ (pos 0) (at (im b) tt j)) (at (im b ⊖ re-part b) tt j) (cond (ltZ (at (im b) tt j) (pos 0)) (at (im b ⊕ re-part b) tt j) (at (im b) tt j)) in
+    let more-is = c .before .before .before .before .more .ensures ∙ ap (gains (v b .angle)) a-is in
+    let fewer-is = c .before .before .before .fewer .ensures ∙ ap (loses (v b .angle)) a-is in
+    let parts-is = c .before .before .chosen-parts .ensures ∙ λ j. cond (ltZ (pos 0) (at (im b) tt j)) (more-is j .parts) (cond (ltZ (at (im b) tt j) (pos 0)) (fewer-is j .parts) (v b .angle .parts)) in
+    (λ j. record { re = re-is j; im = im-is j; angle = record { parts = parts-is j } }) ∙ step-chosen (i b) (v b)
 
 pub one-step-spec : {M : Type 1} → statement M
 one-step-spec =
     tie.close
     (tie.spec
-    mul-a
-    array-read-a
     floor-shift-requires
     floor-shift-requires-2
-    add-x
-    sub-y
+    add-re-above
+    sub-im-above
+    sub-re-below
+    add-im-below
     more-requires
-    sub-x
-    add-y
     fewer-requires
-    returns
-    returns-2
-    returns-3)
+    chosen-parts-requires
+    chosen-requires
+    chosen-requires-2
+    returns)

@@ -1,13 +1,16 @@
 -- `phase_of` is the phase: scaled, turned and stepped as the definition has it, each within what the next asks. Assumes nothing.
-use mathlib.Core.Path.{_≡_, sym, _∙_, ap, subst}
+use mathlib.Core.Path.{_≡_, refl, sym, _∙_, ap, subst}
 use mathlib.Core.Bool.{false}
 use lib.Dec.{lit≤}
-use Rattle.model.specs.Angle.{steps, turned, scaled, phaseAngle}
+use mir.Syntax.{w64}
+use mir.Val.{SFits}
+use Rattle.model.specs.Angle.{angleOf, steps, turned, scaled, phaseAngle}
 use Rattle.model.specs.Bounds.{Sized, Within, cap}
+use Rattle.model.specs.declared.angle.Turning.{Turning}
 use Rattle.model.specs.declared.filter.Phasor.{Phasor}
 use Rattle.model.proofs.Silence.{phase-none, phase-some}
 use Rattle.model.proofs.Quadrant.{turned-sized, scaled-sized}
-use Rattle.model.proofs.Stepping.{within-60}
+use Rattle.model.proofs.Stepping.{within-60, handed-on}
 use borrow.Author.Needs.{needs}
 use Rattle.model.proofs.angle.phase_of.Statement.{statement}
 use Rattle.model.proofs.angle.phase_of.Tie as tie
@@ -31,16 +34,26 @@ first-quadrant-requires : tie.Need-first-quadrant-requires
 first-quadrant-requires c κs = within-60 0 (lit≤ tt) (scaled-is c)
 
 steps-left-requires : tie.Need-steps-left-requires
-steps-left-requires c κs = (lit≤ tt, subst (Within 0) (sym (c .first-quadrant .ensures)) (turned-sized (cap 0) (c .before .times-65536 .result) (scaled-is (c .before))))
+steps-left-requires c κs =
+    let b = c .before .before .before .before in
+    let v = b .first-quadrant .result in
+    let f : SFits w64 (v .re) = search needs in
+    let g : SFits w64 (v .im) = search needs in
+    let sized = turned-sized (cap 0) (b .before .times-65536 .result) (scaled-is (b .before)) in
+    (lit≤ tt, (subst (Within 0) (sym (handed-on v f g ∙ b .first-quadrant .ensures)) sized, refl))
 
 returns-2 : tie.Need-returns-2
 unfolding phaseAngle
 returns-2 c =
-    let s = c .before .before .before .before .before .before in
-    let b = c .before .before .before in
-    let e = c .before .steps-left .ensures ∙ ap (steps 24) (c .before .before .first-quadrant .ensures ∙ ap turned (b .times-65536 .ensures)) in
-    let heard = sym (b .before .before .is-silent .ensures) ∙ b .before .if1 .left in
-    (λ i. record { angle = (e i) .angle; none = false }) ∙ sym (phase-some (s .args .limit) (s .args .p) heard)
+    let b = c .before .before .before .before .before in
+    let s = b .before .before .before .before in
+    let v = b .first-quadrant .result in
+    let f : SFits w64 (v .re) = search needs in
+    let g : SFits w64 (v .im) = search needs in
+    let turned-is = handed-on v f g ∙ b .first-quadrant .ensures ∙ ap turned (b .before .times-65536 .ensures) in
+    let e = c .steps-left .ensures ∙ ap (λ (w : Turning). (steps 24 w) .angle .parts) turned-is in
+    let heard = sym (b .before .before .before .is-silent .ensures) ∙ b .before .before .if1 .left in
+    (λ i. record { angle = angleOf (e i); none = false }) ∙ sym (phase-some (s .args .limit) (s .args .p) heard)
 
 pub phase-of-spec : {M : Type 1} → statement M
 phase-of-spec =

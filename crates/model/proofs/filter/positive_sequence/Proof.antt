@@ -10,32 +10,29 @@ use Rattle.model.proofs.Windows.{weighted-turn}
 use Rattle.model.proofs.filter.positive_sequence.Statement.{statement}
 use Rattle.model.proofs.filter.positive_sequence.Tie as tie
 
-weighted-sum-requires : tie.Need-weighted-sum-requires
-weighted-sum-requires c κs = (omega arith, cosines-tabled)
+weighted-sums-requires : tie.Need-weighted-sums-requires
+weighted-sums-requires c κs = (omega arith, (cosines-tabled, sines-tabled))
 
-weighted-sum-requires-2 : tie.Need-weighted-sum-requires-2
-weighted-sum-requires-2 c κs = (omega arith, sines-tabled)
-
-module _ (c : tie.After-weighted-sum2) where
+module _ (c : tie.After-weighted-sums) where
   abbrev re : Exp w64
-  re = whole (c .before .before .weighted-sum .result) 362387865600 (c .before .before .weighted-sum .ensures .1)
+  re = whole (c .weighted-sums .result .cosine) 362387865600 (c .weighted-sums .ensures .1 .1 .re-size)
 
   abbrev im : Exp w64
-  im = neg (whole (c .weighted-sum2 .result) 362387865600 (c .weighted-sum2 .ensures .1))
+  im = neg (whole (c .weighted-sums .result .sine) 362387865600 (c .weighted-sums .ensures .1 .1 .im-size))
 
 sub-im : tie.Need-sub-im
-sub-im c = fits (im c) tt
+sub-im c = fits (im (c .before .before)) tt
 
 returns : tie.Need-returns
 unfolding positive
 returns c =
-    let a = c .before .before .before .before .args in
-    let re-is = c .before .before .weighted-sum .ensures .0 ∙ weighted-turn (a .samples) (a .index) cosines in
-    let minus-is = c .weighted-sum2 .ensures .0 ∙ weighted-turn (a .samples) (a .index) sines in (
-      (λ i. record { re = (at (re c) tt ∙ re-is) i; im = (at (im c) tt ∙ ap negℤ minus-is) i }),
-      record { re-size = sized (re c) tt; im-size = sized (im c) tt },
+    let b = c .before .before in
+    let a = b .before .before .before .args in
+    let re-is = b .weighted-sums .ensures .0 ∙ weighted-turn (a .samples) (a .index) cosines in
+    let minus-is = b .weighted-sums .ensures .1 .0 ∙ weighted-turn (a .samples) (a .index) sines in (
+      (λ i. record { re = (at (re b) tt ∙ re-is) i; im = (at (im b) tt ∙ ap negℤ minus-is) i }),
+      record { re-size = sized (re b) tt; im-size = sized (im b) tt },
     )
 
 pub positive-sequence-spec : {M : Type 1} → statement M
-positive-sequence-spec =
-    tie.close (tie.spec weighted-sum-requires weighted-sum-requires-2 sub-im returns)
+positive-sequence-spec = tie.close (tie.spec weighted-sums-requires sub-im returns)

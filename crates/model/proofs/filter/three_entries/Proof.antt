@@ -1,7 +1,9 @@
 -- `three_entries` is the sum of three products, each at most 536870912. Assumes nothing.
-use mathlib.Core.Path.{_≡_, _∙_, ap}
-use Prim.Native.Nat.{ℕ, _+_}
-use lib.IntN.{ℤ, _+ℤ_, _*ℤ_}
+use mathlib.Core.Path.{_≡_, refl, _∙_}
+use Prim.Native.Nat.{ℕ, _+_, _%_}
+use native.Mathlib.Omega.{arith}
+use lib.IntN.{ℤ, pos, _+ℤ_, _*ℤ_}
+use lib.ListN.{getD}
 use mir.Syntax.{w16, w64}
 use mir.Val.{SFits, toZ, ofZ}
 use mir.Facts.{toZ-ofZ}
@@ -14,14 +16,14 @@ use Rattle.model.proofs.filter.three_entries.Tie as tie
 times-entry-requires : tie.Need-times-entry-requires
 times-entry-requires c κs = search needs
 
-add-times-entry : tie.Need-add-times-entry
-add-times-entry c = search needs
+ten-on-requires : tie.Need-ten-on-requires
+ten-on-requires c κs = search needs
 
 times-entry-requires-2 : tie.Need-times-entry-requires-2
 times-entry-requires-2 c κs = search needs
 
-add-times-entry-2 : tie.Need-add-times-entry-2
-add-times-entry-2 c = search needs
+five-on-requires : tie.Need-five-on-requires
+five-on-requires c κs = search needs
 
 times-entry-requires-3 : tie.Need-times-entry-requires-3
 times-entry-requires-3 c κs = search needs
@@ -29,26 +31,27 @@ times-entry-requires-3 c κs = search needs
 -- what is known of the three products
 module _ (c : tie.After-times-entry3) where
   abbrev start : tie.Start
-  start = c .before .before .before .before .before .before
+  start = c .before .before .before .before .before .before .before .before
 
   abbrev a-product : ℤ
-  a-product = c .before .before .before .before .times-entry .result
+  a-product = c .before .before .before .before .before .before .times-entry .result
 
   abbrev b-product : ℤ
-  b-product = c .before .before .times-entry2 .result
+  b-product = c .before .before .before .times-entry2 .result
 
   abbrev c-product : ℤ
   c-product = c .times-entry3 .result
 
   abbrev two : Exp w64
-  two = whole a-product 536870912 (c .before .before .before .before .times-entry .ensures .1) ⊕ whole b-product 536870912 (c .before .before .times-entry2 .ensures .1)
+  two = whole a-product 536870912 (c .before .before .before .before .before .before .times-entry .ensures .1) ⊕ whole b-product 536870912 (c .before .before .before .times-entry2 .ensures .1)
 
   abbrev all : Exp w64
   all = two ⊕ whole c-product 536870912 (c .times-entry3 .ensures .1)
 
-  -- a product of what is read is one of the phase
-  product-is : (x : ℤ) (n : ℕ) {r : ℤ} → SFits w16 x → r ≡ toZ w16 (ofZ w16 x) *ℤ entry (start .args .table .now) n → r ≡ x *ℤ entry (start .args .table .now) n
-  product-is x n f e = e ∙ ap (λ (z : ℤ). z *ℤ entry (start .args .table .now) n) (toZ-ofZ f)
+  -- a product of what is read is one of the phase, and places that are the same mod 15 have the same entry
+  product-is : (x : ℤ) (m n : ℕ) {r : ℤ} → SFits w16 x → m % 15 ≡ n % 15 → r ≡ toZ w16 (ofZ w16 x) *ℤ entry (start .args .table .now) m
+      → r ≡ x *ℤ entry (start .args .table .now) n
+  product-is x m n f g e = e ∙ λ i. toZ-ofZ f i *ℤ getD (start .args .table .now) (g i) (pos 0)
 
   is-three : a-product +ℤ b-product +ℤ c-product ≡ three (start .args .table .now) (start .args .s) (start .args .n)
   unfolding three
@@ -58,9 +61,13 @@ module _ (c : tie.After-times-entry3) where
       let a-fits : SFits w16 (s .a) = search needs in
       let b-fits : SFits w16 (s .b) = search needs in
       let c-fits : SFits w16 (s .c) = search needs in
-      let a-is = product-is (s .a) n a-fits (c .before .before .before .before .times-entry .ensures .0) in
-      let b-is = product-is (s .b) (n + 10) b-fits (c .before .before .times-entry2 .ensures .0) in
-      let c-is = product-is (s .c) (n + 5) c-fits (c .times-entry3 .ensures .0) in
+      let ten-on = c .before .before .before .before .before .ten-on in
+      let five-on = c .before .before .five-on in
+      let ten : ten-on .result % 15 ≡ (n + 10) % 15 = omega (arith, ten-on .ensures) in
+      let five : five-on .result % 15 ≡ (n + 5) % 15 = omega (arith, five-on .ensures) in
+      let a-is = product-is (s .a) n n a-fits refl (c .before .before .before .before .before .before .times-entry .ensures .0) in
+      let b-is = product-is (s .b) (ten-on .result) (n + 10) b-fits ten (c .before .before .before .times-entry2 .ensures .0) in
+      let c-is = product-is (s .c) (five-on .result) (n + 5) c-fits five (c .times-entry3 .ensures .0) in
       λ i. a-is i +ℤ b-is i +ℤ c-is i
 
 add-ab : tie.Need-add-ab
@@ -77,9 +84,9 @@ three-entries-spec =
     tie.close
     (tie.spec
     times-entry-requires
-    add-times-entry
+    ten-on-requires
     times-entry-requires-2
-    add-times-entry-2
+    five-on-requires
     times-entry-requires-3
     add-ab
     add-result

@@ -1,6 +1,8 @@
 -- `times_entry` is the product: an i16 is at most 32768 and an entry at most 16384. Assumes nothing.
-use Prim.Native.Nat.{_%_}
-use lib.IntN.{pos}
+use mathlib.Core.Path.{_≡_, _∙_, ap}
+use Prim.Native.Nat.{ℕ, _%_}
+use native.Mathlib.Omega.{arith}
+use lib.IntN.{pos, _*ℤ_}
 use lib.ListN.{getD}
 use mir.Syntax.{w16, w64}
 use Rattle.ints.proofs.Signed.{Exp, whole, cast, _⊗_, at, fits, sized}
@@ -13,7 +15,7 @@ module _ (c : tie.Start) where
   z = cast w16 (c .args .x) (c .fits .x)
 
   abbrev product : Exp w64
-  product = z ⊗ whole (getD (c .args .table .now) (c .args .n % 15) (pos 0)) 16384 (c .pre .small (c .args .n % 15))
+  product = z ⊗ whole (getD (c .args .table .now) (c .args .n) (pos 0)) 16384 (c .pre .1 .small (c .args .n))
 
 cast-z : tie.Need-cast-z
 cast-z c = fits (z c) tt
@@ -28,7 +30,10 @@ mul-result : tie.Need-mul-result
 mul-result c = fits (product (c .before)) tt
 
 returns : tie.Need-returns
-returns c = (at (product (c .before)) tt, sized (product (c .before)) tt)
+returns c =
+    let a = c .before .args in
+    let e : a .n ≡ a .n % 15 = omega (arith, c .before .pre .0) in
+    (at (product (c .before)) tt ∙ ap (λ (k : ℕ). a .x *ℤ getD (a .table .now) k (pos 0)) e, sized (product (c .before)) tt)
 
 pub times-entry-spec : {M : Type 1} → statement M
 times-entry-spec = tie.close (tie.spec cast-z mul-e element-copy-out-e mul-result returns)

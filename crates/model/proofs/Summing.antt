@@ -1,0 +1,76 @@
+-- A weighted sum in the making, over any table: after j terms the local holds the sum of the first j, which is at most 1610612736 for each unit of
+-- weight. Assumes nothing.
+use mathlib.Core.Path.{_≡_, refl, sym, _∙_, ap, ap₂, subst}
+use mathlib.Core.List.{List}
+use Prim.Native.Nat.{ℕ, _+_, _*_, _%_, _≤_, _<_}
+use native.Mathlib.Omega.{arith}
+use lib.Dec.{lit≤}
+use lib.IntN.{ℤ, pos, natAbs, _+ℤ_, _*ℤ_}
+use lib.ListN.{getD}
+use mir.Syntax.{w64}
+use mir.Val.{SFits, toZ, ofZ}
+use Rattle.ints.specs.Whole.{sum}
+use Rattle.ints.proofs.Size.{size-add}
+use Rattle.ints.proofs.Signed.{Exp, local, whole, _⊕_, at, fits, sized}
+use Rattle.model.specs.Filter.{weight, three, term, weighted, windowed, noSample}
+use Rattle.model.specs.declared.filter.Sample.{Sample}
+use Rattle.model.proofs.Same.{three-same}
+use Rattle.model.proofs.Weights.{weights, weights-all, weights-more, weights-within, weight-within, sum-more}
+use Rattle.model.proofs.Windows.{term-at}
+
+module _ (table : List ℤ) (samples : List Sample) (n : ℕ) where
+  abbrev f : ℕ → ℤ
+  f = term table (windowed samples n) (n + 14)
+
+  -- what the local holds after j terms
+  pub record Holds (held j : ℕ) : Type 0 where
+    pub is : held ≡ ofZ w64 (sum j f)
+    pub small : natAbs (sum j f) ≤ weights j * 1610612736
+
+  pub holds-none : Holds 0 0
+  unfolding sum weights
+  holds-none = record { is = refl; small = lit≤ tt }
+
+  -- one term more, x: the sum does not overflow, and the local then holds it
+  abbrev pub More : ℕ → ℕ → ℤ → Type 0
+  More held j x = let z = toZ w64 held +ℤ toZ w64 (ofZ w64 x) in SFits w64 z × Holds (ofZ w64 z) (j + 1)
+
+  -- it does where x is the term of the sample at place j, which meets entry m
+  module _ (held j m : ℕ) (x : ℤ) (h : Holds held j) (inside : j < 29) (e : m ≡ (n + j) % 15)
+      (x-is : x ≡ pos (weight j) *ℤ three table (getD samples j noSample) m) (x-small : natAbs x ≤ weight j * 1610612736) where
+    abbrev before : Exp w64
+    before = local held (sum j f) 700616540160 (h .is) (omega (arith, h .small, weights-within j))
+
+    abbrev more : Exp w64
+    more = whole x 24159191040 (omega (arith, x-small, weight-within j))
+
+    term-is : x ≡ f j
+    term-is =
+        let g : m % 15 ≡ (n + j) % 15 = omega arith in
+        x-is ∙ ap (λ (z : ℤ). pos (weight j) *ℤ z) (three-same table (getD samples j noSample) m (n + j) g) ∙ sym (term-at table samples n j)
+
+    grown : natAbs (sum j f +ℤ f j) ≤ weights (j + 1) * 1610612736
+    grown =
+        let g : natAbs (f j) ≤ weight j * 1610612736 = subst (λ (z : ℤ). natAbs z ≤ weight j * 1610612736) term-is x-small in
+        omega (arith, size-add (sum j f) (f j), h .small, weights-more j)
+
+    pub one-more : More held j x
+    one-more = (
+      fits (before ⊕ more) tt,
+      record {
+        is = ap₂ (λ (a b : ℤ). ofZ w64 (a +ℤ b)) (at before tt) (at more tt ∙ term-is) ∙ ap (ofZ w64) (sym (sum-more f j));
+        small = subst (λ (z : ℤ). natAbs z ≤ weights (j + 1) * 1610612736) (sym (sum-more f j)) grown;
+      },
+    )
+
+  -- and so after all 29
+  module _ (held j : ℕ) (h : Holds held j) (e : j ≡ 29) where
+    abbrev all : Exp w64
+    all = local held (sum j f) 362387865600 (h .is) (omega (arith, h .small, ap weights e ∙ weights-all))
+
+    pub all-is : toZ w64 held ≡ weighted table (windowed samples n) (n + 14)
+    unfolding weighted
+    all-is = at all tt ∙ ap (λ (k : ℕ). sum k f) e
+
+    pub all-small : natAbs (toZ w64 held) ≤ 362387865600
+    all-small = sized all tt
