@@ -1,5 +1,5 @@
 -- Condition B holds: a push is a run of one call, and a whole run that is not refused answers the rule's figures.
-use mathlib.Core.Path.{_≡_, refl, sym, ap, _∙_, subst}
+use mathlib.Core.Path.{_≡_, refl, sym, ap, _∙_}
 use mathlib.Core.Bool.{Bool, true, false, cond, _&&_}
 use mathlib.Core.List.{List, [], _∷_}
 use Prim.Native.Nat.{ℕ, _+_, _-_, _≤_}
@@ -19,13 +19,12 @@ use Rattle.feed.specs.Ring.{historyOf}
 use Rattle.bank.specs.Slot.{slotAt, stateOf, feedOf}
 use Rattle.bank.specs.Damage.{isFree, isOpen, damaged}
 use Rattle.bank.specs.Calls.{Pushing}
-use Rattle.runs.specs.declared.Measured.{Measured}
 use Rattle.runs.specs.declared.Measured.the-variants.{Given}
 use Rattle.runs.specs.Runs.{refused, saidFigures, sampleAt, runRefusals, measured, Measuring}
 use Rattle.runs.proofs.Unique.{unsaid}
 use Rattle.runs.proofs.Feeds.{same-measurement}
 use Rattle.acceptance.specs.Runs.{I16, samples, sampleOf, Call, Ran, ends, goes-on, asksOf, answersOf}
-use Rattle.acceptance.specs.Alone.{State, openWith, stepped, startOf, answersAlone}
+use Rattle.acceptance.specs.Alone.{openWith, stepped, startOf, answersAlone}
 use Rattle.acceptance.specs.ConditionB.{ConditionB}
 use Rattle.acceptance.proofs.ConditionC.{condition-c}
 use Rattle.acceptance.proofs.Within.{within-exactly-when}

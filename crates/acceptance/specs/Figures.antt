@@ -7,7 +7,6 @@ use lib.Dec.{eqb}
 use lib.IntN.{ℤ, pos, negsuc, negℤ}
 use lib.Ieee.{binary64, ofInt, toBits}
 use Rattle.model.specs.declared.angle.Phase.{Phase}
-use Rattle.model.specs.declared.filter.Phasor.{Phasor}
 use Rattle.model.specs.declared.filter.Sample.{Sample}
 use Rattle.model.specs.declared.sampling.Nominal.{Nominal}
 use Rattle.model.specs.declared.sampling.Nominal.the-variants.{Sixty}

@@ -2,9 +2,9 @@
 -- the machine holds, `val` the whole number that it stands for, `bound` a bound on its size. Where the bounds of all its parts are below half the
 -- width's power, a test that antt computes, nothing wraps. Assumes nothing.
 use mathlib.Core.Path.{_≡_, refl, sym, ap, ap₂, _∙_, subst}
-use mathlib.Core.Bool.{Bool, true, false, _&&_}
+use mathlib.Core.Bool.{Bool, _&&_}
 use Prim.Native.Nat.{ℕ, _+_, _*_, _^_, _≤_, _<_}
-use native.Mathlib.Nat.{le-refl, le-trans, lt-of-le-of-lt, add-le-add}
+use native.Mathlib.Nat.{le-refl, le-trans, add-le-add}
 use lib.Dec.{T, leb, ltb, ltb→lt, leb→le}
 use lib.IntN.{ℤ, pos, negℤ, natAbs, _+ℤ_, _-ℤ_, _*ℤ_, +ℤ-idl}
 use lib.Signed.{shrZ, natAbs-le}

@@ -1,8 +1,8 @@
 -- How large sums, differences, products and quotients are: bounds on natAbs, in ℕ, where omega reads them. Assumes nothing.
-use mathlib.Core.Path.{_≡_, refl, sym, _∙_, ap, subst}
+use mathlib.Core.Path.{_≡_, refl, sym, subst}
 use mathlib.Core.Bool.{Bool, true, false, cond}
-use Prim.Native.Nat.{ℕ, zero, suc, _+_, _*_, _-_, _/_, _^_, _≤_, _<_, zero-le}
-use native.Mathlib.Nat.{mul-zero, zero-mul, lt-of-le-of-lt, le-trans, le-refl, mul-le-mul, div-le-self, div-mul-le-self, le-div-iff-mul-le}
+use Prim.Native.Nat.{ℕ, zero, suc, _+_, _*_, _-_, _/_, _^_, _≤_, _<_}
+use native.Mathlib.Nat.{lt-of-le-of-lt, le-trans, le-refl, mul-le-mul, div-le-self, div-mul-le-self, le-div-iff-mul-le}
 use native.Mathlib.Omega.{arith}
 use lib.Dec.{T, ltb, le→leb}
 use lib.IntN.{ℤ, pos, negsuc, negℤ, natAbs, subℕ, _+ℤ_, _-ℤ_, _*ℤ_}

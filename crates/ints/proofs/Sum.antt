@@ -1,9 +1,9 @@
 -- The laws of `sum`. Assumes nothing.
-use mathlib.Core.Path.{_≡_, refl, sym, _∙_, ap, ap₂, subst}
-use Prim.Native.Nat.{ℕ, zero, suc, _+_, _*_, _≤_, _<_, zero-le}
-use native.Mathlib.Nat.{add-zero, add-suc, le-refl, le-trans, lt-of-lt-of-le, le-suc, add-le-add}
+use mathlib.Core.Path.{_≡_, refl, sym, _∙_, ap, ap₂}
+use Prim.Native.Nat.{ℕ, zero, suc, _+_, _≤_, _<_, zero-le}
+use native.Mathlib.Nat.{add-zero, add-suc, le-refl, lt-of-lt-of-le, le-suc}
 use native.Mathlib.Omega.{arith}
-use lib.IntN.{ℤ, pos, negsuc, negℤ, natAbs, _+ℤ_, _*ℤ_, +ℤ-assoc, +ℤ-idl, +ℤ-idr, *ℤ-zero}
+use lib.IntN.{ℤ, pos, natAbs, _+ℤ_, _*ℤ_, +ℤ-assoc, +ℤ-idr, *ℤ-zero}
 use Rattle.ints.specs.Whole.{sum}
 use Rattle.ints.proofs.Ring.{swap-middle, mul-add}
 use Rattle.ints.proofs.Size.{size-add}

@@ -1,6 +1,6 @@
 -- One step, by the sign of im; the steps that are left, one fewer; and how large both parts grow: from step to step by a floor at most, so that
 -- they stay within 2^60. Assumes nothing.
-use mathlib.Core.Path.{_≡_, refl, sym, _∙_, ap, subst}
+use mathlib.Core.Path.{_≡_, refl, sym, ap, subst}
 use mathlib.Core.Bool.{Bool, true, false, cond}
 use Prim.Native.Nat.{ℕ, zero, suc, _+_, _-_, _^_, _≤_, _<_}
 use native.Mathlib.Nat.{le-refl, le-trans, add-zero, add-suc, not-suc-le-zero}
@@ -15,7 +15,7 @@ use mir.Facts.{toZ-ofZ}
 use Rattle.ints.specs.Whole.{floorDiv}
 use Rattle.ints.proofs.Size.{size-floor, size-add, size-minus, mag-le, div-mono}
 use Rattle.model.specs.Angle.{angleOf, step, steps, above, below}
-use Rattle.model.specs.Bounds.{cap, Sized, Within}
+use Rattle.model.specs.Bounds.{cap, Sized}
 use Rattle.model.specs.declared.angle.Turning.{Turning}
 
 -- ---- the step, by the sign of im
@@ -62,6 +62,10 @@ steps-more (suc n) v h =
     λ i. steps (e i) (step (f i) v)
 
 -- ---- how large
+
+-- before step i neither part is larger than the cap
+abbrev pub Within : ℕ → Turning → Type 0
+Within i v = Sized (cap i) (v .re) (v .im)
 
 -- one part plus or minus the floor of the other
 grown : (op : ℤ → ℤ → ℤ) → ((a b : ℤ) → natAbs (op a b) ≤ natAbs a + natAbs b) → (x y : ℤ) (i : ℕ) → natAbs x ≤ cap i → natAbs y ≤ cap i

@@ -3,7 +3,6 @@ use mathlib.Core.List.{List}
 use Prim.Native.Nat.{ℕ, zero, suc, _+_, _*_, _/_, _^_, _≤_}
 use lib.ListN.{getD}
 use lib.IntN.{ℤ, pos, natAbs}
-use Rattle.model.specs.declared.angle.Turning.{Turning}
 use Rattle.model.specs.declared.filter.Phasor.{Phasor}
 
 -- no entry of the table is larger than 16384
@@ -23,6 +22,3 @@ Small p = Sized 362387865600 (p .re) (p .im)
 unfoldable pub cap : ℕ → ℕ
 cap zero = 362387865600 * 65536
 cap (suc i) = cap i + (cap i / 2 ^ i + 1)
-
-abbrev pub Within : ℕ → Turning → Type 0
-Within i v = Sized (cap i) (v .re) (v .im)

@@ -9,7 +9,7 @@ use Rattle.text.proofs.Writing.{nothing}
 use Rattle.feed.specs.declared.Answer.{Answer}
 use Rattle.feed.specs.declared.Answer.the-variants.{Refused, Taken, Reported}
 use Rattle.feed.specs.declared.Report.{Report}
-use Rattle.feed.specs.Answers.{said, saidReport, refused, taken, done}
+use Rattle.feed.specs.Answers.{said}
 use Rattle.bank.specs.declared.Settled.{Settled}
 use Rattle.bank.specs.declared.Settled.the-variants.{Done}
 use Rattle.bank.specs.declared.Settled.the-variants.{Refused as NotOpened}

@@ -1,17 +1,17 @@
 -- The bank that is lent keeps the file's history in slot 0: an opening in the cleared bank starts it, and each push answers as the history rule tells.
-use mathlib.Core.Path.{_≡_, refl, sym, ap, ap₂, _∙_, subst}
-use mathlib.Core.Bool.{Bool, true, false, cond, not}
-use mathlib.Core.List.{List, [], _∷_}
-use Prim.Native.Nat.{ℕ, _+_, _*_, _≤_, _<_}
+use mathlib.Core.Path.{_≡_, refl, sym, ap, _∙_}
+use mathlib.Core.Bool.{Bool, true, false, cond}
+use mathlib.Core.List.{List}
+use Prim.Native.Nat.{ℕ}
 use native.Mathlib.Omega.{arith}
 use lib.Dec.{eqb}
-use lib.ListN.{length, take, drop, replicate, length-replicate, replicate-append-replicate}
+use lib.ListN.{length, take, replicate, length-replicate, replicate-append-replicate}
 use borrow.Author.Tests.{eq-eqb, eqb-true}
 use lib.Seq.{take-at}
 use Rattle.model.specs.declared.filter.Sample.{Sample}
 use Rattle.feed.specs.declared.Feed.{Feed}
 use Rattle.feed.specs.Tags.{servedNominal, servedRate, keptRate}
-use Rattle.feed.specs.Answers.{Said, refused, done}
+use Rattle.feed.specs.Answers.{refused, done}
 use Rattle.feed.specs.History.{History, opening, Told, told, answered}
 use Rattle.feed.specs.Places.{zeros}
 use Rattle.feed.specs.Ring.{opened, stored, historyOf, endOfTime}
@@ -23,7 +23,7 @@ use Rattle.bank.specs.Slot.{slotAt, withSlot, headOf, feedOf, slotOf, freeSlot}
 use Rattle.bank.specs.Damage.{isFree, isOpen, damaged}
 use Rattle.bank.specs.Calls.{Outcome, cleared, openedAt, pushedAt}
 use Rattle.bank.proofs.Slots.{same-slot, length-kept}
-use Rattle.bank.proofs.Keeping.{Kept, feed-back, slot-whole, slot-open, kept-undamaged, free-undamaged, free-is-free}
+use Rattle.bank.proofs.Keeping.{Kept, feed-back, slot-whole, slot-open, kept-undamaged, free-undamaged}
 use Rattle.bank.proofs.KeptOn.{opened-kept, stored-kept}
 use Rattle.phs.specs.Stream.{openedIn}
 use Rattle.phs.proofs.Counts.{served-cases, clash}

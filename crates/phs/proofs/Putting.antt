@@ -11,7 +11,7 @@ use mir.Syntax.{w32, w64}
 use mir.Val.{SFits, toZ, ofZ}
 use mir.Facts.{toZ-ofZ, sfits-widen}
 use lib.Seq.{sets}
-use Rattle.text.specs.Put.{Put, Wrote, placed}
+use Rattle.text.specs.Put.{Put, Wrote}
 use Rattle.phs.specs.Lines.{lineRoom}
 
 pub line-written : {room at r : ℕ} {text before after : List ℕ} → Put room text before at r after → room ≤ lineRoom → at + lineRoom ≤ length before

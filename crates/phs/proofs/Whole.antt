@@ -1,6 +1,6 @@
 -- However a file is cut, its listing comes out: byte by byte the header opens a feed, each six bytes are a push that answers as the history rule tells, and the counts are those of the answers.
 use mathlib.Core.Path.{_≡_, refl, sym, ap, ap₂, _∙_, subst}
-use mathlib.Core.Bool.{Bool, true, false, cond}
+use mathlib.Core.Bool.{false, cond}
 use mathlib.Core.List.{List, [], _∷_, _++_, append-assoc, append-nil}
 use Prim.Native.Nat.{ℕ, suc, _+_, _%_, _^_, _≤_, _<_}
 use native.Mathlib.Nat.{add-assoc, add-zero, zero-add}
@@ -13,22 +13,22 @@ use mir.Val.{SFits}
 use mir.Facts.{sfits-toZ}
 use Rattle.model.specs.declared.filter.Sample.{Sample}
 use Rattle.feed.specs.Answers.{Said, refused, done, taken, takenWith}
-use Rattle.feed.specs.History.{History, opening, Told, told}
+use Rattle.feed.specs.History.{History, opening, told}
 use Rattle.feed.specs.Places.{be16, signed16, sampleOf}
 use Rattle.feed.proofs.Words.{read-is}
 use Rattle.feed.proofs.Stored.{Fits16}
 use Rattle.bank.specs.Calls.{Outcome, pushedAt}
-use Rattle.phs.specs.declared.Stage.the-variants.{InHeader, InSamples, Over}
+use Rattle.phs.specs.declared.Stage.the-variants.{InSamples, Over}
 use Rattle.phs.specs.declared.Reader.{Reader}
 use Rattle.phs.specs.Header.{headed, opens}
 use Rattle.phs.specs.Header.{Said as HeaderSaid, refused as refusedHeader}
 use Rattle.phs.specs.Lines.{headLine, reportLine, lastLine, refusedLine, lineRoom}
 use Rattle.phs.specs.Listing.{isRefusal, sampleIn, reportIn, lineOf, answers, reportsIn, samplesIn, isRefused, linesOf, printed, listed, listing}
-use Rattle.phs.specs.Stream.{Next, readerAt, started, keeping, sampled, openedIn, begun, stageAfter, stepped, last, lastWith, Finishing}
-use Rattle.phs.specs.Cut.{Bytes, Cut, EveryCut}
-use Rattle.phs.proofs.Flow.{after, stream, bytes-take, Flows, cut-stream, cut-bytes}
+use Rattle.phs.specs.Stream.{Next, readerAt, started, keeping, sampled, begun, stageAfter, stepped, last, lastWith, Finishing}
+use Rattle.phs.specs.Cut.{Bytes, EveryCut}
+use Rattle.phs.proofs.Flow.{after, stream, bytes-take, cut-stream, cut-bytes}
 use Rattle.phs.proofs.Counts.{Within, from-opening, unwrapped, still-within}
-use Rattle.phs.proofs.Headers.{Known, not-read, is-read, header-known}
+use Rattle.phs.proofs.Headers.{Known, is-read, header-known}
 use Rattle.phs.proofs.Held.{Holds, opening-is, opening-holds, Answers, push-holds}
 
 -- all that comes: the text, and what is said at the end

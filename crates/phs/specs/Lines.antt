@@ -1,5 +1,5 @@
 -- Document 01, "PHS files and the listing": the lines of a listing, in decimal.
-use mathlib.Core.List.{List, [], _∷_, _++_}
+use mathlib.Core.List.{List, [], _∷_}
 use Prim.Native.Nat.{ℕ}
 use lib.IntN.{ℤ}
 use Rattle.text.specs.Text.{line, decimal, signed}

@@ -1,6 +1,6 @@
 -- A listing of a file that comes in parts: what one byte does, what a call on a part does, and what is said at the end.
 use mathlib.Core.Path.{_≡_}
-use mathlib.Core.Bool.{Bool, cond}
+use mathlib.Core.Bool.{cond}
 use mathlib.Core.List.{List, [], _∷_, _++_}
 use Prim.Native.Nat.{ℕ, _+_, _-_, _%_, _^_, _≤_}
 use lib.Dec.{eqb, ltb}

@@ -1,7 +1,7 @@
 -- A list of refusals, taken one at a time: one that is not due is passed, one that is due is given. Assumes nothing.
 use mathlib.Core.Path.{_≡_, ap}
 use mathlib.Core.Bool.{Bool, true, false, cond}
-use mathlib.Core.List.{List, [], _∷_}
+use mathlib.Core.List.{List, _∷_}
 use Prim.Native.Nat.{ℕ}
 use Rattle.refusals.specs.Refusals.{Refusal, unlessRefused}
 

@@ -2,20 +2,16 @@
 use mathlib.Core.Path.{_≡_, refl, sym, _∙_, ap}
 use mathlib.Core.Bool.{Bool, true, false, not, cond, _&&_}
 use mathlib.Core.List.{List}
-use Prim.Native.Nat.{ℕ, _+_, _-_, _/_, _%_, _≤_, _<_}
+use Prim.Native.Nat.{ℕ, _+_, _-_, _%_, _≤_, _<_}
 use native.Mathlib.Omega.{arith}
 use borrow.Author.Tests.{leb-true, le-ltb, eq-eqb}
-use lib.Dec.{leb, eqb, ltb}
 use lib.IntN.{ℤ}
 use lib.ListN.{length, getD}
 use Rattle.ints.proofs.Cases.{when-true}
-use Rattle.model.specs.declared.filter.Sample.{Sample}
-use Rattle.model.specs.declared.report.Figures.{Figures}
 use Rattle.model.specs.Filter.{windowed, noSample}
 use Rattle.model.specs.Report.{figuresAt, threePhase}
 use Rattle.model.proofs.Same.{figures-same}
-use Rattle.feed.specs.Tags.{servedNominal, nominalOf, spacing, socOf, indexOf}
-use Rattle.feed.specs.Answers.{tagged}
+use Rattle.feed.specs.Tags.{servedNominal, nominalOf}
 use Rattle.feed.specs.History.{History, nextNumber, isDue, reportAt, answered}
 use Rattle.runs.specs.Runs.{refused, saidFigures, sampleAt, unequal, offCentre, measured}
 use Rattle.runs.specs.Feeds.{Holding, SameMeasurement}

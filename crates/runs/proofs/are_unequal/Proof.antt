@@ -1,6 +1,5 @@
 -- `runs::are_unequal` meets its contract: the flag is the definition's expression. Assumes nothing.
 use mathlib.Core.Path.{refl}
-use borrow.Author.Needs.{needs}
 use Rattle.runs.specs.Runs.{unequal}
 use Rattle.runs.proofs.are_unequal.Statement.{statement}
 use Rattle.runs.proofs.are_unequal.Tie as tie

@@ -1,16 +1,15 @@
 -- `runs::measure` answers in the order of document 01: its flags are the list's tests; past them the window around the centre gives the figures. Assumes nothing.
 use mathlib.Core.Path.{_≡_, sym, _∙_, ap}
-use mathlib.Core.Bool.{Bool, true, false, not, cond}
+use mathlib.Core.Bool.{Bool, not, cond}
 use Prim.Native.Nat.{ℕ, _+_, _-_, _≤_}
 use native.Mathlib.Omega.{arith}
 use borrow.Author.Needs.{needs}
 use lib.ListN.{length}
-use Rattle.model.specs.declared.report.Figures.{Figures}
 use Rattle.model.specs.declared.filter.Sample.{Sample}
 use Rattle.model.specs.Filter.{windowed}
 use Rattle.model.specs.Report.{figuresAt, threePhase}
 use Rattle.feed.specs.Tags.{nominalOf}
-use Rattle.runs.specs.Runs.{Said, refused, saidFigures, sampleAt, samplesFrom, unequal, offCentre, measured}
+use Rattle.runs.specs.Runs.{Said, refused, saidFigures, sampleAt, measured}
 use Rattle.runs.proofs.Centres.{in-run, same-lengths}
 use Rattle.runs.proofs.Windows.{window-figures}
 use Rattle.runs.proofs.measure.Statement.{statement}

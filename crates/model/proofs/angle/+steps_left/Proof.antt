@@ -7,9 +7,9 @@ use lib.ListN.{getD}
 use mir.Syntax.{w64}
 use mir.Val.{SFits}
 use Rattle.model.specs.Angle.{angleOf, arctan, step, steps}
-use Rattle.model.specs.Bounds.{Sized, Within}
+use Rattle.model.specs.Bounds.{Sized}
 use Rattle.model.specs.declared.angle.Turning.{Turning}
-use Rattle.model.proofs.Stepping.{within-60, within-next, steps-none, steps-more, handed-on}
+use Rattle.model.proofs.Stepping.{Within, within-60, within-next, steps-none, steps-more, handed-on}
 use borrow.Author.Needs.{needs}
 use borrow.Fn.Kinds.{In}
 use borrow.Fn.PlainCycle.{Measures, is, falls, and}

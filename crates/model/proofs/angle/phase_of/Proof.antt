@@ -1,16 +1,16 @@
 -- `phase_of` is the phase: scaled, turned and stepped as the definition has it, each within what the next asks. Assumes nothing.
-use mathlib.Core.Path.{_≡_, refl, sym, _∙_, ap, subst}
+use mathlib.Core.Path.{refl, sym, _∙_, ap, subst}
 use mathlib.Core.Bool.{false}
 use lib.Dec.{lit≤}
 use mir.Syntax.{w64}
 use mir.Val.{SFits}
-use Rattle.model.specs.Angle.{angleOf, steps, turned, scaled, phaseAngle}
-use Rattle.model.specs.Bounds.{Sized, Within, cap}
+use Rattle.model.specs.Angle.{angleOf, steps, turned, phaseAngle}
+use Rattle.model.specs.Bounds.{Sized, cap}
 use Rattle.model.specs.declared.angle.Turning.{Turning}
 use Rattle.model.specs.declared.filter.Phasor.{Phasor}
 use Rattle.model.proofs.Silence.{phase-none, phase-some}
 use Rattle.model.proofs.Quadrant.{turned-sized, scaled-sized}
-use Rattle.model.proofs.Stepping.{within-60, handed-on}
+use Rattle.model.proofs.Stepping.{Within, within-60, handed-on}
 use borrow.Author.Needs.{needs}
 use Rattle.model.proofs.angle.phase_of.Statement.{statement}
 use Rattle.model.proofs.angle.phase_of.Tie as tie
