@@ -1,10 +1,10 @@
 -- Condition B holds: a push is a run of one call, and a whole run that is not refused answers the rule's figures.
 use mathlib.Core.Path.{_≡_, refl, sym, ap, _∙_}
-use mathlib.Core.Bool.{Bool, true, false, cond, _&&_}
+use mathlib.Core.Bool.{true, false, cond}
 use mathlib.Core.List.{List, [], _∷_}
 use Prim.Native.Nat.{ℕ, _+_, _-_, _≤_}
 use native.Mathlib.Omega.{arith}
-use borrow.Author.Tests.{leb-true, eq-eqb, eqb-true, ne-eqb}
+use borrow.Author.Tests.{eq-eqb, eqb-true, ne-eqb}
 use lib.Dec.{eqb}
 use lib.IntN.{ℤ}
 use lib.ListN.{length, getD}
@@ -22,7 +22,7 @@ use Rattle.bank.specs.Calls.{Pushing}
 use Rattle.runs.specs.declared.Measured.the-variants.{Given}
 use Rattle.runs.specs.Runs.{refused, saidFigures, sampleAt, runRefusals, measured, Measuring}
 use Rattle.runs.proofs.Unique.{unsaid}
-use Rattle.runs.proofs.Feeds.{same-measurement}
+use Rattle.runs.proofs.Feeds.{due-held, same-measurement}
 use Rattle.acceptance.specs.Runs.{I16, samples, sampleOf, Call, Ran, ends, goes-on, asksOf, answersOf}
 use Rattle.acceptance.specs.Alone.{openWith, stepped, startOf, answersAlone}
 use Rattle.acceptance.specs.ConditionB.{ConditionB}
@@ -65,13 +65,8 @@ each-run a b c centre nominal f p = go (through refused (saidFigures rule) (runR
         absurd (omega arith)
     go (passed q) = let e : Given f ≡ Given rule = ap unsaid (p ∙ q) in cc
 
-and-true : (p q : Bool) → (p && q) ≡ true → p ≡ true
-and-true true q e = refl
-and-true false q e = e
-
 never-the-first : (h : History) → isDue h ≡ true → h .first + 15 ≤ nextNumber h - 16
-unfolding isDue
-never-the-first h e = let l : 31 ≤ length (h .samples) = leb-true 31 (length (h .samples)) (and-true _ _ e) in omega arith
+never-the-first h e = let l : 31 ≤ length (h .samples) = due-held h e in omega arith
 
 pub condition-b : ConditionB
 condition-b = record { each-push = each-push; never-the-first = never-the-first; each-run = each-run; same-figures = same-measurement; within = within-exactly-when }

@@ -20,10 +20,14 @@ and-true : (p q : Bool) → (p && q) ≡ true → p ≡ true
 and-true true q e = refl
 and-true false q e = e
 
+-- where a report is due, 31 samples are there
+pub due-held : (h : History) → isDue h ≡ true → 31 ≤ length (h .samples)
+unfolding isDue
+due-held h due = leb-true 31 (length (h .samples)) (and-true _ _ due)
+
 module _ (h : History) (a b c : List ℤ) (k : ℕ) (served : servedNominal (h .nominal) ≡ true) (due : isDue h ≡ true) (runs : Holding h a b c k) where
   enough : 31 ≤ length (h .samples)
-  unfolding isDue
-  enough = leb-true 31 (length (h .samples)) (and-true _ _ due)
+  enough = due-held h due
 
   -- the sample j places after the first of the 31
   sample : (j : ℕ) → j < 31 → windowed (h .samples) (h .first) (nextNumber h - 16 + j - 15) ≡ sampleAt a b c (k + length (h .samples) - 16 + j - 15)
