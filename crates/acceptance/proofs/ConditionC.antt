@@ -6,12 +6,14 @@ use Rattle.bank.proofs.Slots.{slot-length}
 use Rattle.bank.proofs.Sixteen.{banks-equal}
 use Rattle.acceptance.specs.Alone.{startOf}
 use Rattle.acceptance.specs.ConditionC.{ConditionC}
+use Rattle.acceptance.proofs.Numbered.{same-samples}
 use Rattle.acceptance.proofs.OnSlot.{unnamed}
 use Rattle.acceptance.proofs.Shows.{start-shown}
 use Rattle.acceptance.proofs.Order.{saidAlone, slotAlone, length-after, slot-goes-alone, answers-go-alone, alone-as-told}
 
 pub condition-c : ConditionC
 condition-c = record {
+  same-call = same-samples;
   whoever-comes-first = λ bank endOne endTwo one two t k h.
       answers-go-alone k h (t .first-ran) (t .proper-length)
       ∙ ap (saidAlone (slotAt bank k)) (t .same-within k h)

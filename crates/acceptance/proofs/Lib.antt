@@ -4,6 +4,7 @@ pub mod Within
 pub mod ConditionB
 pub mod ConditionC
 pub mod Figures
+pub mod Document
 pub mod Refusing
 pub mod Numbered
 pub mod OnSlot

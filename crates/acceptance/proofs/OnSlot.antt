@@ -10,13 +10,12 @@ use Rattle.refusals.proofs.Passing.{pass, stop}
 use Rattle.feed.specs.declared.Feed.{Feed}
 use Rattle.feed.specs.Answers.{Said, refused, done}
 use Rattle.feed.specs.History.{answered}
-use Rattle.feed.specs.Ring.{opened, stored, historyOf, endOfTime}
-use Rattle.bank.specs.Slot.{slotAt, withSlot, headOf, feedOf, slotOf, freeSlot}
-use Rattle.bank.specs.Damage.{isFree, isOpen, damaged}
-use Rattle.bank.specs.Calls.{Outcome, refusing, wrongLength, noSlot, openedAt, pushedAt, closedAt}
-use Rattle.feed.specs.Tags.{noNominal, noRate}
+use Rattle.feed.specs.Ring.{opened, stored, historyOf}
+use Rattle.bank.specs.Slot.{slotAt, withSlot, feedIn, slotOf, freeSlot}
+use Rattle.bank.specs.Calls.{Outcome, refusing, wrongLength, noSlot, slotDamaged, openOfOpen, onFree, endOfTimeIn, openedAt, pushedAt, closedAt}
+use Rattle.sampling.specs.Tags.{noNominal, noRate}
 use Rattle.bank.proofs.Slots.{put-back}
-use Rattle.acceptance.specs.Runs.{Ask, opens, samples, closes, sampleOf, Promised}
+use Rattle.acceptance.specs.Runs.{Ask, opens, samples, closes, sampleBy, Promised}
 
 -- what a call on a slot answers, and the slot's bytes after it
 pub record Left : Type 0 where
@@ -26,26 +25,16 @@ pub record Left : Type 0 where
 abbrev pub leaving : List ℕ → ℕ → Left
 leaving s number = record { answer = refused number; slot = s }
 
--- the tests of a slot by itself: 3, 4 and 5
-abbrev pub damagedIn : List ℕ → Refusal
-damagedIn s = record { number = 3; due = damaged s }
-
-abbrev pub openIn : List ℕ → Refusal
-openIn s = record { number = 4; due = isOpen s }
-
-abbrev pub freeIn : List ℕ → Refusal
-freeIn s = record { number = 5; due = isFree s }
-
 -- the refusals of a call that are left past 1 and 2, in their order, and what it does where none is due
 abbrev pub slotRefusals : Ask → List ℕ → List Refusal
-slotRefusals (opens nominal rate soc) s = damagedIn s ∷ openIn s ∷ noNominal nominal ∷ noRate nominal rate ∷ []
-slotRefusals (samples a b c) s = damagedIn s ∷ freeIn s ∷ endOfTime (headOf s) ∷ []
-slotRefusals closes s = damagedIn s ∷ freeIn s ∷ []
+slotRefusals (opens nominal rate soc) s = slotDamaged s ∷ openOfOpen s ∷ noNominal nominal ∷ noRate nominal rate ∷ []
+slotRefusals (samples a b c) s = slotDamaged s ∷ onFree s ∷ endOfTimeIn s ∷ []
+slotRefusals closes s = slotDamaged s ∷ onFree s ∷ []
 
 abbrev pub slotGrant : Ask → List ℕ → Left
 slotGrant (opens nominal rate soc) s = record { answer = done; slot = slotOf (opened nominal rate soc) }
 slotGrant (samples a b c) s =
-    let next : Feed = stored (feedOf s) (sampleOf a b c) in
+    let next : Feed = stored (feedIn s) (sampleBy a b c) in
     record { answer = answered (historyOf next); slot = slotOf next }
 slotGrant closes s = record { answer = done; slot = freeSlot }
 

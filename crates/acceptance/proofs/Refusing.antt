@@ -1,4 +1,4 @@
--- A call that is unlessRefused by a list of refusals refuses as condition A demands: either a first refusal is due and is given, or all are passed.
+-- A call that goes by a list of refusals refuses as condition A demands: either a first refusal is due and is given, or none is due and all are passed.
 use mathlib.Core.Path.{_≡_, refl, sym, ap, _∙_, subst}
 use mathlib.Core.Bool.{Bool, true, false}
 use mathlib.Core.List.{List, [], _∷_}
@@ -6,49 +6,80 @@ use Prim.Native.Nat.{ℕ}
 use Rattle.refusals.specs.Refusals.{Refusal, unlessRefused}
 use Rattle.refusals.proofs.Passing.{pass, stop}
 use Rattle.feed.specs.Answers.{Said, refused, done, taken, takenWith}
-use Rattle.bank.specs.Calls.{Outcome, refusing}
-use Rattle.acceptance.specs.ConditionA.{FirstDue, here, later, Answers, Refuses}
+use Rattle.acceptance.specs.ConditionA.{FirstDue, here, later, Answers, Ended, Refuses}
 
-module _ {A : Type 0} (refuse : ℕ → A) (grant : A) where
+-- ---- a list of refusals
+
+abbrev pub NoneDue : List Refusal → Type 0
+NoneDue [] = Unit {0}
+NoneDue (r ∷ rs) = (r .due ≡ false) × NoneDue rs
+
+-- how a list is gone through
+pub data Through (rs : List Refusal) : Type 0 where
+  met : (n : ℕ) → FirstDue n rs → Through rs
+  passed : NoneDue rs → Through rs
+
+pub through : (rs : List Refusal) → Through rs
+through [] = passed tt
+through (r ∷ rs) = go (r .due) refl (through rs)
+  where
+    go : (b : Bool) → r .due ≡ b → Through rs → Through (r ∷ rs)
+    go true e t = met (r .number) (here e)
+    go false e (met n f) = met n (later e f)
+    go false e (passed p) = passed (e, p)
+
+module _ {X : Type 0} (refuse : ℕ → X) (grant : X) where
   pub given : {n : ℕ} {rs : List Refusal} → FirstDue n rs → unlessRefused rs refuse grant ≡ refuse n
   given (here {r} {rs} d) = stop r rs refuse grant d
   given (later {n} {r} {rs} d f) = pass r rs refuse grant d ∙ given f
 
-  -- how a list is gone through
-  pub data Through (rs : List Refusal) : Type 0 where
-    met : (n : ℕ) → FirstDue n rs → Through rs
-    passed : unlessRefused rs refuse grant ≡ grant → Through rs
+  pub granted : (rs : List Refusal) → NoneDue rs → unlessRefused rs refuse grant ≡ grant
+  granted [] p = refl
+  granted (r ∷ rs) p = pass r rs refuse grant (p .0) ∙ granted rs (p .1)
 
-  pub through : (rs : List Refusal) → Through rs
-  through [] = passed refl
-  through (r ∷ rs) = go (r .due) refl (through rs)
-    where
-      go : (b : Bool) → r .due ≡ b → Through rs → Through (r ∷ rs)
-      go true e t = met (r .number) (here e)
-      go false e (met n f) = met n (later e f)
-      go false e (passed p) = passed (pass r rs refuse grant e ∙ p)
+-- ---- a call that may be refused
 
--- a call with no bytes to alter: refusals of different numbers differ, and `grant` is none of them
-module _ {A S : Type 0} (saying : A → S) (refused-as : ℕ → S) (refusal : ℕ → A) (refusal-said : (n : ℕ) → saying (refusal n) ≡ refused-as n)
-    (one-number : (m n : ℕ) → refused-as m ≡ refused-as n → m ≡ n) (list : List Refusal) (grant : S) (granted : A) (granted-said : saying granted ≡ grant)
-    (no-refusal : (n : ℕ) → grant ≡ refused-as n → ⊥) where
-  abbrev Admits : A → Type 0
-  Admits r = saying r ≡ unlessRefused list refused-as grant
+-- what is said of an outcome: refusals of different numbers differ, and `grant` says none of them
+module _ {E X S : Type 0} (saying : E → S) (refused-as : ℕ → S) (one-number : (m n : ℕ) → refused-as m ≡ refused-as n → m ≡ n)
+    (outcome : E → X) (says : X → S) (says-so : (e : E) → says (outcome e) ≡ saying e)
+    (refuse : ℕ → X) (refuse-says : (n : ℕ) → says (refuse n) ≡ refused-as n) (refusal : (n : ℕ) → (e : E) × (outcome e ≡ refuse n))
+    (list : List Refusal) (grant : X) (no-refusal : (n : ℕ) → says grant ≡ refused-as n → ⊥) (granting : (e : E) × (outcome e ≡ grant)) where
+  abbrev Admits : E → Type 0
+  Admits e = outcome e ≡ unlessRefused list refuse grant
 
   pub answers : Answers saying refused-as list Admits
   answers = record {
-    returns = some (through refused-as grant list);
-    meets = λ r n p f. p ∙ given refused-as grant f;
-    no-other = λ r n p e. due n (sym e ∙ p) (through refused-as grant list);
+    returns = some (through list);
+    meets = λ e n p f. sym (says-so e) ∙ ap says (p ∙ given refuse grant f) ∙ refuse-says n;
+    no-other = λ e n p q. due n (sym q ∙ sym (says-so e) ∙ ap says p) (through list);
   }
     where
-      some : Through refused-as grant list → (r : A) × Admits r
-      some (met n f) = (refusal n, refusal-said n ∙ sym (given refused-as grant f))
-      some (passed q) = (granted, granted-said ∙ sym q)
+      some : Through list → (e : E) × Admits e
+      some (met n f) = (refusal n .0, refusal n .1 ∙ sym (given refuse grant f))
+      some (passed p) = (granting .0, granting .1 ∙ sym (granted refuse grant list p))
 
-      due : (n : ℕ) → refused-as n ≡ unlessRefused list refused-as grant → Through refused-as grant list → FirstDue n list
-      due n e (met m f) = subst (λ (i : ℕ). FirstDue i list) (one-number m n (sym (e ∙ given refused-as grant f))) f
-      due n e (passed q) = absurd (no-refusal n (sym (e ∙ q)))
+      due : (n : ℕ) → refused-as n ≡ says (unlessRefused list refuse grant) → Through list → FirstDue n list
+      due n e (met m f) = subst (λ (i : ℕ). FirstDue i list) (one-number m n (sym (e ∙ ap says (given refuse grant f) ∙ refuse-says m))) f
+      due n e (passed p) = absurd (no-refusal n (sym (e ∙ ap says (granted refuse grant list p))))
+
+-- a call that is lent nothing that it could alter: its outcome is what it says
+module _ {A S : Type 0} (saying : A → S) (refused-as : ℕ → S) (one-number : (m n : ℕ) → refused-as m ≡ refused-as n → m ≡ n)
+    (refusal : ℕ → A) (refusal-said : (n : ℕ) → saying (refusal n) ≡ refused-as n)
+    (list : List Refusal) (grant : S) (no-refusal : (n : ℕ) → grant ≡ refused-as n → ⊥) (grants : A) (grants-said : saying grants ≡ grant) where
+  pub alone : Answers saying refused-as list (λ r. saying r ≡ unlessRefused list refused-as grant)
+  alone =
+      answers saying refused-as one-number saying (λ s. s) (λ r. refl) refused-as (λ n. refl) (λ n. (refusal n, refusal-said n)) list grant no-refusal
+      (grants, grants-said)
+
+-- ---- a call that is lent something
+
+-- outcomes of type X: what is said and what was lent, joined and taken apart
+pub record Joins (B X : Type 0) : Type 0 where
+  pub join : Said → B → X
+  pub says : X → Said
+  pub lent : X → B
+  pub says-joined : (s : Said) (b : B) → says (join s b) ≡ s
+  pub lent-joined : (s : Said) (b : B) → lent (join s b) ≡ b
 
 -- an answer that is no refusal
 abbrev pub Granted : Said → Type 0
@@ -57,40 +88,28 @@ Granted done = Unit {0}
 Granted taken = Unit {0}
 Granted (takenWith soc frame re im d1 d2 mark rePeak imPeak deviation rocof) = Unit {0}
 
--- `refusal n` is how the call's answer refuses, `granted` is what it answers where no refusal is due, and that says no refusal
-module _ {A : Type 0} (saying : A → Said) (refusal : ℕ → A) (refusal-said : (n : ℕ) → saying (refusal n) ≡ refused n)
-    (list : List Refusal) (before : List ℕ) (grant : Outcome) (granted : A) (granted-said : saying granted ≡ grant .answer)
-    (no-refusal : Granted (grant .answer)) where
-  abbrev outcome : Outcome
-  outcome = unlessRefused list (refusing before) grant
+-- `refusal n` is how the call's answer refuses, and `grants` is what it answers where no refusal is due
+module _ {A B X : Type 0} (j : Joins B X) (saying : A → Said) (refusal : ℕ → A) (refusal-said : (n : ℕ) → saying (refusal n) ≡ refused n)
+    (list : List Refusal) (before after : B) (grants : A) (grant : Said) (grants-said : saying grants ≡ grant) (no-refusal : Granted grant) where
+  abbrev refuse : ℕ → X
+  refuse n = j .join (refused n) before
 
-  abbrev Promised : A → List ℕ → Type 0
-  Promised r after = record { answer = saying r; bank = after } ≡ outcome
+  abbrev Promised : A → B → Type 0
+  Promised r b = j .join (saying r) b ≡ unlessRefused list refuse (j .join grant after)
 
-  is-due : (r : A) (after : List ℕ) (n : ℕ) → Promised r after → saying r ≡ refused n → FirstDue n list
-  is-due r after n p e = go (through (refusing before) grant list)
-    where
-      told : refused n ≡ outcome .answer
-      told = sym e ∙ ap (λ (o : Outcome). o .answer) p
-
-      go : Through (refusing before) grant list → FirstDue n list
-      go (met m f) =
-          let q : refused m ≡ refused n = sym (told ∙ ap (λ (o : Outcome). o .answer) (given (refusing before) grant f)) in
-          let same : m ≡ n = cc in
-          subst (λ (i : ℕ). FirstDue i list) same f
-      go (passed q) = absurd (subst Granted (sym (told ∙ ap (λ (o : Outcome). o .answer) q)) no-refusal)
-
-  an-answer : (r : A) × ((after : List ℕ) × Promised r after)
-  an-answer = go (through (refusing before) grant list)
-    where
-      go : Through (refusing before) grant list → (r : A) × ((after : List ℕ) × Promised r after)
-      go (met n f) = (refusal n, (before, ap (λ (a : Said). record { answer = a; bank = before }) (refusal-said n) ∙ sym (given (refusing before) grant f)))
-      go (passed q) = (granted, (grant .bank, ap (λ (a : Said). record { answer = a; bank = grant .bank }) granted-said ∙ sym q))
+  answering : Answers {E = Ended A B} (λ e. saying (e .answer)) refused list (λ e. Promised (e .answer) (e .after))
+  answering =
+      answers (λ (e : Ended A B). saying (e .answer)) refused (λ m n e. cc)
+      (λ (e : Ended A B). j .join (saying (e .answer)) (e .after)) (j .says) (λ e. j .says-joined (saying (e .answer)) (e .after))
+      refuse (λ n. j .says-joined (refused n) before)
+      (λ n. (record { answer = refusal n; after = before }, ap (λ (s : Said). j .join s before) (refusal-said n)))
+      list (j .join grant after) (λ n e. subst Granted (sym (j .says-joined grant after) ∙ e) no-refusal)
+      (record { answer = grants; after = after }, ap (λ (s : Said). j .join s after) grants-said)
 
   pub refuses : Refuses saying list before Promised
   refuses = record {
-    returns = an-answer;
-    meets = λ r after n p f. ap (λ (o : Outcome). o .answer) (p ∙ given (refusing before) grant f);
-    no-other = is-due;
-    alters-nothing = λ r after n p e. ap (λ (o : Outcome). o .bank) (p ∙ given (refusing before) grant (is-due r after n p e));
+    answers = answering;
+    alters-nothing = λ r b n p e.
+        let f = answering .no-other (record { answer = r; after = b }) n p e in
+        sym (j .lent-joined (saying r) b) ∙ ap (j .lent) (p ∙ given refuse (j .join grant after) f) ∙ j .lent-joined (refused n) before;
   }

@@ -8,26 +8,26 @@ use lib.ListN.{length}
 use borrow.Author.Tests.{eqb-true}
 use Rattle.model.specs.declared.filter.Sample.{Sample}
 use Rattle.feed.specs.declared.Feed.{Feed}
-use Rattle.feed.specs.Tags.{servedNominal, servedRate, keptRate}
+use Rattle.sampling.specs.Tags.{servedNominal, servedRate}
 use Rattle.feed.specs.Answers.{done}
 use Rattle.feed.specs.History.{History, opening, grown, answered, told}
-use Rattle.feed.specs.Ring.{opened, stored, historyOf, endOfTime}
+use Rattle.feed.specs.Ring.{opened, stored, historyOf, endOfTimeOf}
 use Rattle.feed.proofs.Faultless.{kept-served}
 use Rattle.feed.proofs.Stored.{Fits16}
 use Rattle.feed.proofs.Alike.{told-last, told-on}
 use Rattle.feed.proofs.Meeting.{Keeps, held-kept, opening-kept, last-same, answer-kept, stored-kept}
-use Rattle.bank.specs.Slot.{stateOf, headOf, feedOf, slotOf}
-use Rattle.bank.specs.Damage.{isFree, isOpen, damaged as isDamaged}
+use Rattle.bank.specs.Slot.{stateIn, headIn, feedIn, slotOf}
+use Rattle.bank.specs.Damage.{isFree, isOpen, isDamaged}
 use Rattle.bank.proofs.Keeping.{Kept, feed-back, slot-whole, slot-open, kept-undamaged, free-undamaged, free-is-free, free-whole, is-open, open-kept}
 use Rattle.bank.proofs.KeptOn.{opened-kept, stored-kept as kept-on}
-use Rattle.acceptance.specs.Runs.{Ask, opens, samples, closes, sampleOf}
+use Rattle.acceptance.specs.Runs.{Ask, opens, samples, closes, sampleBy}
 use Rattle.acceptance.specs.Alone.{State, damaged, free, openWith, Step, refusing, stepped, startOf}
 use Rattle.acceptance.proofs.OnSlot.{Left, leaving, onSlot}
 
 pub data Shows : List ℕ → State → Type 0 where
   spoilt : {s : List ℕ} → isDamaged s ≡ true → Shows s damaged
   empty : {s : List ℕ} → isDamaged s ≡ false → isFree s ≡ true → Shows s free
-  keeping : {s : List ℕ} {h : History} → isDamaged s ≡ false → isFree s ≡ false → Keeps (feedOf s) h → Shows s (openWith h)
+  keeping : {s : List ℕ} {h : History} → isDamaged s ≡ false → isFree s ≡ false → Keeps (feedIn s) h → Shows s (openWith h)
 
 -- the same answer, and a whole slot that shows the feed after it
 pub record Goes (l : Left) (t : Step) : Type 0 where
@@ -41,12 +41,12 @@ pub start-shown : (s : List ℕ) → length s ≡ 256 → Shows s (startOf s)
 unfolding startOf
 start-shown s w = go (isDamaged s) refl (isFree s) refl
   where
-    go : (d : Bool) → isDamaged s ≡ d → (f : Bool) → isFree s ≡ f → Shows s (cond d damaged (cond f free (openWith (historyOf (feedOf s)))))
+    go : (d : Bool) → isDamaged s ≡ d → (f : Bool) → isFree s ≡ f → Shows s (cond d damaged (cond f free (openWith (historyOf (feedIn s)))))
     go true d f e = spoilt d
     go false d true e = empty d e
     go false d false e =
         let k = open-kept s w d e in
-        keeping d e (held-kept (feedOf s) (k .faultless) (k .whole))
+        keeping d e (held-kept (feedIn s) (k .faultless) (k .whole))
 
 -- ---- what a call leaves
 
@@ -68,19 +68,19 @@ module _ (s : List ℕ) (w : length s ≡ 256) where
 
   module _ (d : isDamaged s ≡ false) (e : isFree s ≡ true) where
     not-open : isOpen s ≡ false
-    not-open = let z : stateOf s ≡ 0 = eqb-true (stateOf s) 0 e in rw z
+    not-open = let z : stateIn s ≡ 0 = eqb-true (stateIn s) 0 e in rw z
 
     open-goes : (nominal rate soc : ℕ) (m : Bool) → servedNominal nominal ≡ m → (q : Bool) → (servedRate nominal rate || eqb rate 0) ≡ q
         → Goes
         (cond (not m) (leaving s 6) (cond (not q) (leaving s 7) (record { answer = done; slot = slotOf (opened nominal rate soc) })))
-        (cond (not m) (refusing free 6) (cond (not q) (refusing free 7) (record { answer = done; next = openWith (opening nominal (keptRate nominal rate) soc) })))
+        (cond (not m) (refusing free 6) (cond (not q) (refusing free 7) (record { answer = done; next = openWith (opening nominal rate soc) })))
     open-goes nominal rate soc true a true b =
         let r = kept-served nominal rate a b in
         let k = opened-kept nominal rate soc a r in
         record {
           answer-same = refl;
           whole = slot-whole (opened nominal rate soc) (k .whole);
-          shows = put-shown (opened nominal rate soc) (opening nominal (keptRate nominal rate) soc) k (opening-kept nominal rate soc a r);
+          shows = put-shown (opened nominal rate soc) (opening nominal rate soc) k (opening-kept nominal rate soc a r);
         }
     open-goes nominal rate soc true a false b = stays s free w (empty d e) 7
     open-goes nominal rate soc false a q b = stays s free w (empty d e) 6
@@ -91,20 +91,20 @@ module _ (s : List ℕ) (w : length s ≡ 256) where
     free-goes (samples a b c) = rw (d, e) (stays s free w (empty d e) 5)
     free-goes closes = rw (d, e) (stays s free w (empty d e) 5)
 
-  module _ (d : isDamaged s ≡ false) (e : isFree s ≡ false) (h : History) (k : Keeps (feedOf s) h) where
-    pushed-goes : (x : Sample) → Fits16 x → (b : Bool) → (endOfTime (headOf s)) .due ≡ b
+  module _ (d : isDamaged s ≡ false) (e : isFree s ≡ false) (h : History) (k : Keeps (feedIn s) h) where
+    pushed-goes : (x : Sample) → Fits16 x → (b : Bool) → (endOfTimeOf (headIn s)) .due ≡ b
         → Goes
-        (cond b (leaving s 8) (record { answer = answered (historyOf (stored (feedOf s) x)); slot = slotOf (stored (feedOf s) x) }))
+        (cond b (leaving s 8) (record { answer = answered (historyOf (stored (feedIn s) x)); slot = slotOf (stored (feedIn s) x) }))
         (record { answer = (told h x) .answer; next = openWith ((told h x) .history) })
-    unfolding feedOf
-    pushed-goes x fits true t = rw (told-last h x (last-same (feedOf s) h k ∙ t)) (stays s (openWith h) w (keeping d e k) 8)
+    unfolding feedIn
+    pushed-goes x fits true t = rw (told-last h x (last-same (feedIn s) h k ∙ t)) (stays s (openWith h) w (keeping d e k) 8)
     pushed-goes x fits false t =
-        let m = kept-on (feedOf s) x (open-kept s w d e) in
-        rw (told-on h x (last-same (feedOf s) h k ∙ t))
+        let m = kept-on (feedIn s) x (open-kept s w d e) in
+        rw (told-on h x (last-same (feedIn s) h k ∙ t))
         (record {
-          answer-same = answer-kept (feedOf s) h k x fits;
-          whole = slot-whole (stored (feedOf s) x) (m .whole);
-          shows = put-shown (stored (feedOf s) x) (grown h x) m (stored-kept (feedOf s) h k x fits);
+          answer-same = answer-kept (feedIn s) h k x fits;
+          whole = slot-whole (stored (feedIn s) x) (m .whole);
+          shows = put-shown (stored (feedIn s) x) (grown h x) m (stored-kept (feedIn s) h k x fits);
         })
 
     kept-goes : (ask : Ask) → Goes (onSlot ask s) (stepped ask (openWith h))
@@ -112,7 +112,7 @@ module _ (s : List ℕ) (w : length s ≡ 256) where
     kept-goes (opens nominal rate soc) = rw (d, is-open s w d e) (stays s (openWith h) w (keeping d e k) 4)
     kept-goes (samples a b c) =
         rw (d, e)
-        (pushed-goes (sampleOf a b c) (record { a-fits = a .range; b-fits = b .range; c-fits = c .range }) ((endOfTime (headOf s)) .due) refl)
+        (pushed-goes (sampleBy a b c) (record { a-fits = a .range; b-fits = b .range; c-fits = c .range }) ((endOfTimeOf (headIn s)) .due) refl)
     kept-goes closes = rw (d, e) (record { answer-same = refl; whole = free-whole; shows = empty free-undamaged free-is-free })
 
 pub step-goes : (ask : Ask) (s : List ℕ) (st : State) → length s ≡ 256 → Shows s st → Goes (onSlot ask s) (stepped ask st)

@@ -11,16 +11,16 @@ use lib.IntN.{ℤ, natAbs}
 use Rattle.ints.proofs.Cases.{when-false}
 use Rattle.verdict.specs.Errors.{errorsOf}
 use Rattle.verdict.specs.Limits.{limitsFor}
-use Rattle.verdict.specs.Judging.{Answer, refused, left-out, verdicts, told, noReference, leftOut, verdictOn, judgement, Judging}
+use Rattle.verdict.specs.Judging.{Said, refused, left-out, verdicts, saidVerdict, noReference, leftOut, verdictOn, judgement, Judging}
 use Rattle.verdict.specs.declared.errors.Device.{Device}
 use Rattle.verdict.specs.declared.errors.Reference.{Reference}
 use Rattle.verdict.specs.declared.limits.Limits.{Limits}
 use Rattle.verdict.specs.declared.judging.Verdict.{Verdict}
-use Rattle.verdict.specs.declared.judging.Judged.the-variants.{Told}
+use Rattle.verdict.specs.declared.judging.Judged.the-variants.{Verdicts}
 use Rattle.verdict.proofs.Unique.{unsaid, unsaid-said}
 use Rattle.acceptance.specs.Within.{Within, Due, WithinLimits}
 
--- ---- the reference's magnitude is above 0 where refusal 9 is not given
+-- ---- re² + im² of the reference is above 0 where refusal 9 is not given
 
 squares-positive : (a b : ℕ) → (eqb a 0 && eqb b 0) ≡ false → 0 < a * a + b * b
 squares-positive zero zero e = absurd (subst T e tt)
@@ -32,7 +32,7 @@ squares-positive (suc a) b e = omega (arith, mul-pos {m = suc a} {n = suc a} (om
 decides : {b : Bool} (x y : ℕ) → b ≡ leb x y → (b ≡ true) ↔ (x ≤ y)
 decides x y e = (λ t. leb-true x y (sym e ∙ t), λ h. e ∙ le-leb x y h)
 
-exactly-for : (l : Limits) (d : Device) (q : Reference) (v : Verdict) → noReference q ≡ false → told v ≡ told (verdictOn (errorsOf d q) l) → Within l d q v
+exactly-for : (l : Limits) (d : Device) (q : Reference) (v : Verdict) → noReference q .due ≡ false → saidVerdict v ≡ saidVerdict (verdictOn (errorsOf d q) l) → Within l d q v
 unfolding verdictOn errorsOf
 exactly-for l d q v h e =
     record {
@@ -44,7 +44,7 @@ exactly-for l d q v h e =
 
 -- ---- verdicts are told past every refusal
 
-past : {t f r : Bool} (given : Bool) (x y : Answer) → (verdicts t f r ≡ x → ⊥) → verdicts t f r ≡ cond given x y → (given ≡ false) × (verdicts t f r ≡ y)
+past : {t f r : Bool} (given : Bool) (x y : Said) → (verdicts t f r ≡ x → ⊥) → verdicts t f r ≡ cond given x y → (given ≡ false) × (verdicts t f r ≡ y)
 past true x y h e = absurd (h e)
 past false x y h e = (refl, e)
 
@@ -55,15 +55,15 @@ not-left-out : {t f r : Bool} → verdicts t f r ≡ left-out → ⊥
 not-left-out e = let z : _≡_ {A = ℕ} 0 1 = cc in omega arith
 
 module _ (class test : ℕ) (m : ℤ) (d : Device) (q : Reference) where
-  abbrev verdict : Answer
-  verdict = told (verdictOn (errorsOf d q) (limitsFor class test))
+  abbrev verdict : Said
+  verdict = saidVerdict (verdictOn (errorsOf d q) (limitsFor class test))
 
-  told-when : (v : Verdict) → Judging class test m d q (Told v) → Due class test m q × (told v ≡ verdict)
+  told-when : (v : Verdict) → Judging class test m d q (Verdicts v) → Due class test m q × (saidVerdict v ≡ verdict)
   unfolding judgement
   told-when v e =
       let after-10 = past (ltb 1 class) _ _ not-refused e in
       let after-11 = past (ltb 1 test) _ _ not-refused (after-10 .1) in
-      let after-9 = past (noReference q) _ _ not-refused (after-11 .1) in
+      let after-9 = past (noReference q .due) _ _ not-refused (after-11 .1) in
       let after-left-out = past (leftOut test m) _ _ not-left-out (after-9 .1) in (
         record {
           class-known = ltb-false 1 class (after-10 .0);
@@ -79,7 +79,7 @@ module _ (class test : ℕ) (m : ℤ) (d : Device) (q : Reference) where
   due-judged u =
       when-false (ltb 1 class) _ _ (le-ltb 1 class (u .class-known))
       ∙ when-false (ltb 1 test) _ _ (le-ltb 1 test (u .test-known))
-      ∙ when-false (noReference q) _ _ (u .reference-given)
+      ∙ when-false (noReference q .due) _ _ (u .reference-given)
       ∙ when-false (leftOut test m) _ _ (u .not-left-out)
 
 pub within-exactly-when : WithinLimits

@@ -3,13 +3,13 @@ use mathlib.Core.Bool.{cond}
 use mathlib.Core.List.{List, [], _∷_}
 use Prim.Native.Nat.{ℕ}
 use Rattle.refusals.specs.Refusals.{unlessRefused}
-use Rattle.feed.specs.Tags.{noNominal, noRate, keptRate}
+use Rattle.sampling.specs.Tags.{noNominal, noRate}
 use Rattle.feed.specs.Answers.{Said, refused, done}
 use Rattle.feed.specs.History.{History, opening, told}
 use Rattle.feed.specs.Ring.{historyOf}
-use Rattle.bank.specs.Slot.{feedOf}
-use Rattle.bank.specs.Damage.{isFree, damaged as isDamaged}
-use Rattle.acceptance.specs.Runs.{Ask, opens, samples, closes, sampleOf}
+use Rattle.bank.specs.Slot.{feedIn}
+use Rattle.bank.specs.Damage.{isFree, isDamaged}
+use Rattle.acceptance.specs.Runs.{Ask, opens, samples, closes, sampleBy}
 
 -- a feed is damaged, free, or open with the samples that it has taken since its latest opening
 pub data State : Type 0 where
@@ -26,16 +26,17 @@ pub record Step : Type 0 where
 abbrev pub refusing : State → ℕ → Step
 refusing state number = record { answer = refused number; next = state }
 
--- a damaged feed refuses every call; a free one is opened, with no sample yet; an open one takes samples by condition B's rule until it is closed
+-- a damaged feed refuses every call with 3; a free one is opened, with no sample yet; an open one takes samples by condition B's rule until it is
+-- closed
 unfoldable pub stepped : Ask → State → Step
 stepped ask damaged = refusing damaged 3
 stepped (opens nominal rate soc) free =
     unlessRefused (noNominal nominal ∷ noRate nominal rate ∷ []) (refusing free)
-    (record { answer = done; next = openWith (opening nominal (keptRate nominal rate) soc) })
+    (record { answer = done; next = openWith (opening nominal rate soc) })
 stepped (samples a b c) free = refusing free 5
 stepped closes free = refusing free 5
 stepped (opens nominal rate soc) (openWith h) = refusing (openWith h) 4
-stepped (samples a b c) (openWith h) = record { answer = (told h (sampleOf a b c)) .answer; next = openWith ((told h (sampleOf a b c)) .history) }
+stepped (samples a b c) (openWith h) = record { answer = (told h (sampleBy a b c)) .answer; next = openWith ((told h (sampleBy a b c)) .history) }
 stepped closes (openWith h) = record { answer = done; next = free }
 
 -- what a feed is answered, call after call
@@ -45,4 +46,4 @@ answersAlone state (ask ∷ asks) = (stepped ask state) .answer ∷ answersAlone
 
 -- how the bytes of a slot stand at the start: the samples held there are the feed's
 unfoldable pub startOf : List ℕ → State
-startOf slot = cond (isDamaged slot) damaged (cond (isFree slot) free (openWith (historyOf (feedOf slot))))
+startOf slot = cond (isDamaged slot) damaged (cond (isFree slot) free (openWith (historyOf (feedIn slot))))

@@ -1,14 +1,17 @@
--- Condition A, the entry points: each call by the relation that its function's contract cites.
+-- Condition A, the entry points: each call that may be refused, by the relation that its function's contract cites.
+-- A file's refusals, 14, 12, 13, 6, 7 and then 8 or 15, are lines of its listing: condition B says of the listing what it is.
 use mathlib.Core.Path.{_≡_}
 use mathlib.Core.Bool.{true, false}
 use mathlib.Core.List.{List, _∷_}
 use Prim.Native.Nat.{ℕ}
+use lib.IntN.{ℤ}
 use Rattle.model.specs.declared.filter.Sample.{Sample}
 use Rattle.refusals.specs.Refusals.{Refusal}
+use Rattle.feed.specs.declared.Feed.{Feed}
 use Rattle.feed.specs.Answers.{Said, refused, said}
-use lib.IntN.{ℤ}
-use Rattle.runs.specs.Runs.{runRefusals, Measuring, refused as runRefused, said as runSaid}
-use Rattle.phs.specs.Header.{headerRefusals, Heading, refused as headerRefused, said as headerSaid}
+use Rattle.feed.specs.Ring.{feedRefusals, Pushing as FeedPushing}
+use Rattle.runs.specs.Runs.{runRefusals, RunMeasuring, refused as runRefused, said as runSaid}
+use Rattle.header.specs.Header.{headerRefusals, Heading, refused as headerRefused, said as headerSaid}
 use Rattle.verdict.specs.declared.errors.Device.{Device}
 use Rattle.verdict.specs.declared.errors.Reference.{Reference}
 use Rattle.verdict.specs.Judging.{judgeRefusals, Judging, refused as verdictRefused, said as verdictSaid}
@@ -19,41 +22,45 @@ pub data FirstDue : ℕ → List Refusal → Type 0 where
   here : {r : Refusal} {rs : List Refusal} → r .due ≡ true → FirstDue (r .number) (r ∷ rs)
   later : {n : ℕ} {r : Refusal} {rs : List Refusal} → r .due ≡ false → FirstDue n rs → FirstDue n (r ∷ rs)
 
--- What a call owes that may be refused and has no bytes lent to it that it could alter: `promised` is what its contract says of the answer
-pub record Answers {A S : Type 0} (saying : A → S) (refusing : ℕ → S) (list : List Refusal) (promised : A → Type 0) : Type 0 where
-  -- Every call returns on every input: some answer is promised whatever the input; that the function ends is part of every contract
-  pub returns : (r : A) × promised r
-  -- Bad input meets the refusal that document 01 names, in 01's order
-  pub meets : (r : A) (n : ℕ) → promised r → FirstDue n list → saying r ≡ refusing n
-  -- and that refusal is given in no other case
-  pub no-other : (r : A) (n : ℕ) → promised r → saying r ≡ refusing n → FirstDue n list
+-- A call that may be refused: `promised` is what its contract says of how the call ends, `saying` what it then answers in document 01's words
+pub record Answers {E S : Type 0} (saying : E → S) (refusing : ℕ → S) (list : List Refusal) (promised : E → Type 0) : Type 0 where
+  -- "Every call returns on every input": some end is promised whatever the input; that the function ends is part of every contract
+  pub returns : (e : E) × promised e
+  -- "Bad input meets the refusal that document 01 names, in 01's order": where one is due, the first one's number is answered, and it only
+  pub meets : (e : E) (n : ℕ) → promised e → FirstDue n list → saying e ≡ refusing n
+  -- "and that refusal is given in no other case"
+  pub no-other : (e : E) (n : ℕ) → promised e → saying e ≡ refusing n → FirstDue n list
 
--- What a call owes that may be refused and has bytes lent to it: `before` are those bytes, `promised` speaks of the answer and the bytes after
-pub record Refuses {A : Type 0} (saying : A → Said) (list : List Refusal) (before : List ℕ) (promised : A → List ℕ → Type 0) : Type 0 where
-  -- Every call returns on every input: some answer is promised whatever the input; that the function ends is part of every contract
-  pub returns : (r : A) × ((after : List ℕ) × promised r after)
-  -- Bad input meets the refusal that document 01 names, in 01's order
-  pub meets : (r : A) (after : List ℕ) (n : ℕ) → promised r after → FirstDue n list → saying r ≡ refused n
-  -- and that refusal is given in no other case
-  pub no-other : (r : A) (after : List ℕ) (n : ℕ) → promised r after → saying r ≡ refused n → FirstDue n list
-  -- A refused call answers its number only and alters no byte lent to it
-  pub alters-nothing : (r : A) (after : List ℕ) (n : ℕ) → promised r after → saying r ≡ refused n → after ≡ before
+-- how a call ends that something is lent to: its answer, and what was lent, as the call leaves it
+pub record Ended (A B : Type 0) : Type 0 where
+  pub answer : A
+  pub after : B
 
--- demand 1, of each call
+-- A call that may be refused and is lent `before`; `promised` is what its contract says of the answer and of what was lent
+pub record Refuses {A B : Type 0} (saying : A → Said) (list : List Refusal) (before : B) (promised : A → B → Type 0) : Type 0 where
+  pub answers : Answers {E = Ended A B} (λ e. saying (e .answer)) refused list (λ e. promised (e .answer) (e .after))
+  -- "A refused call answers its number only and alters no byte lent to it"
+  pub alters-nothing : (r : A) (after : B) (n : ℕ) → promised r after → saying r ≡ refused n → after ≡ before
+
+-- demand 1, of each call: the clause above each is document 01's order of refusals
 pub record ConditionA : Type 0 where
   -- clear 1
   pub clearing : (bank : List ℕ) → Refuses settled (clearRefusals bank) bank (Clearing bank)
   -- open 1, 2, 3, 4, 6, 7
-  pub opening : (bank : List ℕ) (slot nominal rate soc : ℕ) → Refuses settled (openRefusals bank slot nominal rate) bank (Opening bank slot nominal rate soc)
+  pub opening : (bank : List ℕ) (slot nominal rate soc : ℕ)
+      → Refuses settled (openRefusals bank slot nominal rate) bank (Opening bank slot nominal rate soc)
   -- push 1, 2, 3, 5, 8
   pub pushing : (bank : List ℕ) (slot : ℕ) (s : Sample) → Refuses said (pushRefusals bank slot) bank (Pushing bank slot s)
   -- close 1, 2, 3, 5
   pub closing : (bank : List ℕ) (slot : ℕ) → Refuses settled (closeRefusals bank slot) bank (Closing bank slot)
+  -- a feed by itself, passed through a push as one value: 3, 8; refused, it comes back as it was
+  pub feeding : (f : Feed) (s : Sample)
+      → Refuses said (feedRefusals (f .head)) f (λ answer next. FeedPushing f s (record { answer = answer; feed = next }))
   -- judging 10, 11, 9
   pub judging : (class test : ℕ) (m : ℤ) (device : Device) (reference : Reference)
       → Answers verdictSaid verdictRefused (judgeRefusals class test reference) (Judging class test m device reference)
   -- whole run 6, 16, 17
   pub measuring : (a b c : List ℤ) (centre nominal : ℕ)
-      → Answers runSaid runRefused (runRefusals a b c centre nominal) (Measuring a b c centre nominal)
+      → Answers runSaid runRefused (runRefusals a b c centre nominal) (RunMeasuring a b c centre nominal)
   -- header 14, 12, 13, 6, 7
   pub heading : (header : List ℕ) → Answers headerSaid headerRefused (headerRefusals header) (Heading header)

@@ -8,24 +8,25 @@ use lib.IntN.{ℤ, pos, negsuc, negℤ}
 use lib.Ieee.{binary64, ofInt, toBits}
 use Rattle.model.specs.declared.angle.Phase.{Phase}
 use Rattle.model.specs.declared.filter.Sample.{Sample}
-use Rattle.model.specs.declared.sampling.Nominal.{Nominal}
-use Rattle.model.specs.declared.sampling.Nominal.the-variants.{Sixty}
+use Rattle.sampling.specs.declared.Nominal.{Nominal}
+use Rattle.sampling.specs.declared.Nominal.the-variants.{Sixty}
 use Rattle.model.specs.Filter.{positive, noSample}
 use Rattle.model.specs.Angle.{angleOf, phaseOf}
-use Rattle.model.specs.Report.{minus, signed32, deviationOf, threePhase}
+use Rattle.model.specs.Report.{differences, deviationOf, threePhase}
 use Rattle.verdict.specs.declared.errors.Device.{Device}
 use Rattle.verdict.specs.declared.errors.Reference.{Reference}
 use Rattle.verdict.specs.Errors.{errorsOf}
 use Rattle.verdict.specs.Judging.{verdictOn}
 
--- a phase as the figures give it
-pub data Given : Type 0 where
-  none : Given
-  at : ℕ → Given
+-- an angle as document 01 gives it: none, or so many parts
+pub data Angled : Type 0 where
+  none : Angled
+  at : ℕ → Angled
 
+-- a figure: what it is about, and what document 01 says of it
 pub data Figure : Type 0 where
   -- angle of (re, im)
-  angle : (re im : ℤ) → Given → Figure
+  angle : (re im : ℤ) → Angled → Figure
   -- one sample at an index and zeros elsewhere: re and im at a centre
   impulse : (sample : Sample) (index centre : ℕ) (re im : ℤ) → Figure
   -- p and r: d1
@@ -37,47 +38,62 @@ pub data Figure : Type 0 where
 
 -- ---- when a figure holds
 
+-- the same whole number
 abbrev same : ℤ → ℤ → Bool
 same (pos m) (pos n) = eqb m n
 same (pos m) (negsuc n) = false
 same (negsuc m) (pos n) = false
 same (negsuc m) (negsuc n) = eqb m n
 
-abbrev isGiven : Phase → Given → Bool
-isGiven p none = p .none
-isGiven p (at parts) = cond (p .none) false (eqb (p .angle .parts) parts)
+-- the phase is the angle that is given
+abbrev isAngled : Phase → Angled → Bool
+isAngled p none = p .none
+isAngled p (at parts) = cond (p .none) false (eqb (p .angle .parts) parts)
 
+-- a sample at an index, and zeros at every other
 abbrev alone : Sample → ℕ → ℕ → Sample
 alone s index n = cond (eqb n index) s noSample
 
+-- a phase of so many parts
+abbrev phase : ℕ → Phase
+phase parts = record { angle = angleOf parts; none = false }
+
+-- the rule gives what the figure says; d1 needs no q
 unfoldable pub holds : Figure → Bool
-holds (angle re im given) = isGiven (phaseOf (threePhase .limit) (record { re = re; im = im })) given
+holds (angle re im angled) = isAngled (phaseOf (threePhase .limit) (record { re = re; im = im })) angled
 holds (impulse s index centre re im) = same (positive (alone s index) centre .re) re && same (positive (alone s index) centre .im) im
-holds (difference p r d1) = same (signed32 (minus (angleOf r) (angleOf p))) d1
+holds (difference p r d1) = same (differences (phase p) (phase p) (phase r) .d1) d1
 holds (deviation nominal d1 hz) = eqb (toBits binary64 (deviationOf nominal d1)) (toBits binary64 (ofInt binary64 hz))
 holds (tve device reference percent within) = Bool·beq (verdictOn (errorsOf device reference) (record { tve = percent; fe = 0; rfe = 0 }) .tve) within
 
+-- every figure of a list holds
 abbrev pub allHold : List Figure → Bool
 allHold [] = true
 allHold (f ∷ fs) = holds f && allHold fs
 
 -- ---- the figures
 
+-- a = 1
 abbrev oneInA : Sample
 oneInA = record { a = pos 1; b = pos 0; c = pos 0 }
 
+-- b = 1
 abbrev oneInB : Sample
 oneInB = record { a = pos 0; b = pos 1; c = pos 0 }
 
+-- -n
 abbrev minusOf : ℕ → ℤ
 minusOf n = negℤ (pos n)
 
+-- a device that reads (re, im)
 abbrev device : ℕ → ℕ → Device
-device re im = record { re = pos re; im = pos im; frequency = pos 0; rocof = pos 0 }
+device re im = record { re = pos re; im = pos im; deviation = pos 0; rocof = pos 0 }
 
+-- a reference of (re, im)
 abbrev reference : ℕ → ℕ → Reference
-reference re im = record { re = pos re; im = pos im; frequency = pos 0; rocof = pos 0 }
+reference re im = record { re = pos re; im = pos im; deviation = pos 0; rocof = pos 0 }
 
+-- the figures that are marked P, in document 01's order; r - p = 2^31 stands twice, without a wrap and with one
 abbrev pub figures : List Figure
 figures =
     angle (pos 1) (pos 1) (at 536870912)

@@ -2,7 +2,8 @@
 pub mod ConditionA
 pub mod Within
 pub mod Runs
+pub mod ConditionB
 pub mod Alone
 pub mod ConditionC
-pub mod ConditionB
 pub mod Figures
+pub mod Document

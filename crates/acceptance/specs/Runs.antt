@@ -30,19 +30,21 @@ pub record Call : Type 0 where
   pub ask : Ask
   pub answer : Said
 
-abbrev pub sampleOf : I16 → I16 → I16 → Sample
-sampleOf a b c = record { a = a .number; b = b .number; c = c .number }
+-- the sample of three signed 16-bit numbers
+abbrev pub sampleBy : I16 → I16 → I16 → Sample
+sampleBy a b c = record { a = a .number; b = b .number; c = c .number }
 
 -- the call's function may answer this of the bank before it, and leave the bank after it
 abbrev pub Promised : ℕ → Ask → List ℕ → Said → List ℕ → Type 0
 Promised slot (opens nominal rate soc) before answer after = (r : Settled) × Opening before slot nominal rate soc r after × (settled r ≡ answer)
-Promised slot (samples a b c) before answer after = (r : Answer) × Pushing before slot (sampleOf a b c) r after × (said r ≡ answer)
+Promised slot (samples a b c) before answer after = (r : Answer) × Pushing before slot (sampleBy a b c) r after × (said r ≡ answer)
 Promised slot closes before answer after = (r : Settled) × Closing before slot r after × (settled r ≡ answer)
 
 -- a run from one bank to another: its calls in their order, each as its function promises
 pub data Ran : List ℕ → List Call → List ℕ → Type 0 where
   ends : {bank : List ℕ} → Ran bank [] bank
-  goes-on : {bank next end : List ℕ} {c : Call} {cs : List Call} → Promised (c .slot) (c .ask) bank (c .answer) next → Ran next cs end → Ran bank (c ∷ cs) end
+  goes-on : {bank next end : List ℕ} {c : Call} {cs : List Call}
+      → Promised (c .slot) (c .ask) bank (c .answer) next → Ran next cs end → Ran bank (c ∷ cs) end
 
 -- the calls that a feed gets, in their order within it
 unfoldable pub asksOf : ℕ → List Call → List Ask

@@ -1,5 +1,4 @@
--- Condition B, second sentence of demand 2: "Where a verdict is due, a device is within TVE, FE or RFE exactly when its error doesn't exceed the
--- limit for its class and test." It is stated of every answer that the contract of `judge` admits.
+-- Condition B, second sentence of demand 2, of every answer that the contract of `judge` admits.
 use mathlib.Core.Path.{_≡_}
 use mathlib.Core.Bool.{true, false}
 use mathlib.Core.Logic.{_↔_}
@@ -13,9 +12,9 @@ use Rattle.verdict.specs.declared.errors.Reference.{Reference}
 use Rattle.verdict.specs.declared.limits.Limits.{Limits}
 use Rattle.verdict.specs.declared.judging.Verdict.{Verdict}
 use Rattle.verdict.specs.declared.judging.Judged.{Judged}
-use Rattle.verdict.specs.declared.judging.Judged.the-variants.{Told}
+use Rattle.verdict.specs.declared.judging.Judged.the-variants.{Verdicts}
 
--- an exact fraction, where its bottom is above 0
+-- a fraction: top / bottom
 pub record Fraction : Type 0 where
   pub top : ℕ
   pub bottom : ℕ
@@ -33,30 +32,31 @@ tveSquared d q = record { top = squares (d .re -ℤ q .re) (d .im -ℤ q .im); b
 abbrev pub percentSquared : ℕ → Fraction
 percentSquared p = record { top = p * p; bottom = 100 * 100 }
 
--- "a device is within TVE, FE or RFE exactly when its error doesn't exceed the limit": verdicts v on a device d, a reference q and limits l
+-- verdicts v on a device d, a reference q and limits l
 pub record Within (l : Limits) (d : Device) (q : Reference) (v : Verdict) : Type 0 where
   -- TVE is a fraction: the reference is not zero
   pub fraction : 0 < tveSquared d q .bottom
-  -- "within TVE": TVE ≤ p / 100, both squared
+  -- TVE ≤ p / 100, both squared
   pub tve : (v .tve ≡ true) ↔ (tveSquared d q ≤ᶠ percentSquared (l .tve))
-  -- "within FE": the error in µHz of a figure in mHz
-  pub fe : (v .fe ≡ true) ↔ (natAbs (pos 1000 *ℤ d .frequency -ℤ q .frequency) ≤ l .fe)
-  -- "within RFE": the error in µHz/s of a figure in hundredths of Hz/s
+  -- FE in µHz, of a device figure in mHz
+  pub fe : (v .fe ≡ true) ↔ (natAbs (pos 1000 *ℤ d .deviation -ℤ q .deviation) ≤ l .fe)
+  -- RFE in µHz/s, of a device figure in hundredths of Hz/s
   pub rfe : (v .rfe ≡ true) ↔ (natAbs (pos 10000 *ℤ d .rocof -ℤ q .rocof) ≤ l .rfe)
 
 -- a verdict is due: there are limits for class and test, the reference is not zero, and the report is not left out
 pub record Due (class test : ℕ) (m : ℤ) (q : Reference) : Type 0 where
   pub class-known : class ≤ 1
   pub test-known : test ≤ 1
-  pub reference-given : noReference q ≡ false
+  pub reference-given : noReference q .due ≡ false
   pub not-left-out : leftOut test m ≡ false
 
+-- the sentence, in its two parts
 pub record WithinLimits : Type 0 where
   -- "Where a verdict is due ..": there the answer is three verdicts, and nowhere else
   pub due : (class test : ℕ) (m : ℤ) (d : Device) (q : Reference) (r : Judged)
       → Judging class test m d q r
-      → Due class test m q ↔ ((v : Verdict) × (r ≡ Told v))
+      → Due class test m q ↔ ((v : Verdict) × (r ≡ Verdicts v))
   -- ".. a device is within TVE, FE or RFE exactly when its error doesn't exceed the limit for its class and test"
   pub exactly : (class test : ℕ) (m : ℤ) (d : Device) (q : Reference) (v : Verdict)
-      → Judging class test m d q (Told v)
+      → Judging class test m d q (Verdicts v)
       → Within (limitsFor class test) d q v

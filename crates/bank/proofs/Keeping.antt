@@ -10,13 +10,13 @@ use lib.Seq.{take-at, drop-at, length-take-le}
 use borrow.Author.Tests.{eqb-false, eq-eqb, ltb-false, not-false}
 use Rattle.feed.specs.declared.Head.{Head}
 use Rattle.feed.specs.declared.Feed.{Feed}
-use Rattle.feed.specs.Places.{zeros, be16}
+use Rattle.bits.specs.Bits.{be16, be32}
+use Rattle.feed.specs.Places.{zeros}
 use Rattle.feed.specs.Ring.{faulty}
 use Rattle.feed.proofs.Sound.{neither}
-use Rattle.bank.specs.Slot.{be32, stateOf, headOf, headBytes, placesIn, tailIn, tailOf, feedOf, slotOf, freeSlot}
-use Rattle.bank.specs.Damage.{blank, isFree, isOpen, stray, damaged}
+use Rattle.bank.specs.Slot.{stateIn, headIn, headBytes, placesIn, tailIn, tailOf, feedIn, slotOf, freeSlot}
+use Rattle.bank.specs.Damage.{blank, isFree, isOpen, stray, isDamaged}
 use Rattle.bank.proofs.Blank.{zeros-blank}
-use Rattle.bank.proofs.Laid.{head-length}
 use Rattle.bank.proofs.States.{open-damaged}
 
 -- what a slot that is open and not damaged keeps: numbers that are not faulty, whole places, and zeros in those not filled
@@ -27,12 +27,16 @@ pub record Kept (f : Feed) : Type 0 where
 
 -- ---- from a feed to its slot and back
 
+pub head-length : (h : Head) → length (headBytes h) ≡ 11
+unfolding headBytes
+head-length h = refl
+
 tail-length : (f : Feed) → length (tailOf f) ≡ 59
 unfolding tailOf zeros
 tail-length f = length-replicate {A = ℕ} 59 0
 
-head-back : (h : Head) (rest : List ℕ) → headOf (headBytes h ++ rest) ≡ h
-unfolding headOf headBytes
+head-back : (h : Head) (rest : List ℕ) → headIn (headBytes h ++ rest) ≡ h
+unfolding headIn headBytes
 head-back h rest =
     let n : ℕ = h .soc in
     let s : be32 (n / 16777216) (n / 65536 % 256) (n / 256 % 256) (n % 256) ≡ n = omega arith in
@@ -52,15 +56,15 @@ module _ (f : Feed) (whole : length (f .places) ≡ 186) where
       let front : length (headBytes (f .head) ++ f .places) ≡ 197 = simp (length-append, head-length) (omega arith) in
       rw (← append-assoc (headBytes (f .head)) (f .places) (tailOf f)) (drop-at (headBytes (f .head) ++ f .places) (tailOf f) 197 front)
 
-  pub feed-back : feedOf (slotOf f) ≡ f
-  unfolding feedOf slotOf
+  pub feed-back : feedIn (slotOf f) ≡ f
+  unfolding feedIn slotOf
   feed-back = λ d. record { head = head-back (f .head) (f .places ++ tailOf f) d; places = places-back d }
 
   pub slot-whole : length (slotOf f) ≡ 256
   unfolding slotOf
   slot-whole = simp (length-append, head-length, tail-length) (omega arith)
 
-pub slot-open : (f : Feed) → stateOf (slotOf f) ≡ 1
+pub slot-open : (f : Feed) → stateIn (slotOf f) ≡ 1
 unfolding slotOf headBytes
 slot-open f = refl
 
@@ -68,19 +72,23 @@ tail-blank : (f : Feed) → blank (tailOf f) ≡ true
 unfolding tailOf
 tail-blank f = zeros-blank 59
 
-head-in : (f : Feed) → headOf (slotOf f) ≡ f .head
+head-in : (f : Feed) → headIn (slotOf f) ≡ f .head
 unfolding slotOf
 head-in f = head-back (f .head) (f .places ++ tailOf f)
 
-pub kept-undamaged : (f : Feed) → Kept f → damaged (slotOf f) ≡ false
+pub kept-undamaged : (f : Feed) → Kept f → isDamaged (slotOf f) ≡ false
 unfolding stray
 kept-undamaged f k =
     open-damaged (slotOf f) (slot-open f)
     ∙ rw (head-in f, places-back f (k .whole), tail-back f (k .whole), k .faultless, k .unfilled, tail-blank f)
 
-pub free-undamaged : damaged freeSlot ≡ false
-unfolding damaged freeSlot zeros
+pub free-undamaged : isDamaged freeSlot ≡ false
+unfolding isDamaged freeSlot zeros
 free-undamaged = rw (zeros-blank 256)
+
+pub free-not-open : isOpen freeSlot ≡ false
+unfolding freeSlot zeros
+free-not-open = refl
 
 pub free-is-free : isFree freeSlot ≡ true
 unfolding freeSlot zeros
@@ -92,24 +100,24 @@ free-whole = length-replicate {A = ℕ} 256 0
 
 -- ---- from a slot to its feed
 
-module _ (s : List ℕ) (whole : length s ≡ 256) (undamaged : damaged s ≡ false) (not-free : isFree s ≡ false) where
-  is-one : stateOf s ≡ 1
-  unfolding damaged
+module _ (s : List ℕ) (whole : length s ≡ 256) (undamaged : isDamaged s ≡ false) (not-free : isFree s ≡ false) where
+  is-one : stateIn s ≡ 1
+  unfolding isDamaged
   is-one =
-      let n = neither (ltb 1 (stateOf s) || (isFree s && not (blank s))) (isOpen s && (faulty (headOf s) || stray s)) undamaged in
-      let m = neither (ltb 1 (stateOf s)) (isFree s && not (blank s)) (n .0) in
-      omega (arith, ltb-false 1 (stateOf s) (m .0), eqb-false (stateOf s) 0 not-free)
+      let n = neither (ltb 1 (stateIn s) || (isFree s && not (blank s))) (isOpen s && (faulty (headIn s) || stray s)) undamaged in
+      let m = neither (ltb 1 (stateIn s)) (isFree s && not (blank s)) (n .0) in
+      omega (arith, ltb-false 1 (stateIn s) (m .0), eqb-false (stateIn s) 0 not-free)
 
   pub is-open : isOpen s ≡ true
-  is-open = eq-eqb (stateOf s) 1 is-one
+  is-open = eq-eqb (stateIn s) 1 is-one
 
-  pub open-kept : Kept (feedOf s)
-  unfolding feedOf stray placesIn
+  pub open-kept : Kept (feedIn s)
+  unfolding feedIn stray placesIn
   open-kept =
-      let n = neither (faulty (headOf s)) (stray s) (sym (open-damaged s is-one) ∙ undamaged) in
-      let m = neither (not (blank (drop (6 * headOf s .held) (placesIn s)))) (not (blank (tailIn s))) (n .1) in
+      let n = neither (faulty (headIn s)) (stray s) (sym (open-damaged s is-one) ∙ undamaged) in
+      let m = neither (not (blank (drop (6 * headIn s .held) (placesIn s)))) (not (blank (tailIn s))) (n .1) in
       record {
         faultless = n .0;
         whole = length-take-le 186 (drop 11 s) (omega (arith, length-drop 11 s));
-        unfilled = not-false (blank (drop (6 * headOf s .held) (placesIn s))) (m .0);
+        unfilled = not-false (blank (drop (6 * headIn s .held) (placesIn s))) (m .0);
       }

@@ -10,7 +10,7 @@ use lib.Seq.{drop-drop}
 use borrow.Author.Tests.{ltb-true, ltb-false}
 use Rattle.model.specs.declared.filter.Sample.{Sample}
 use Rattle.feed.specs.declared.Feed.{Feed}
-use Rattle.feed.specs.Tags.{servedNominal, servedRate, keptRate}
+use Rattle.sampling.specs.Tags.{servedNominal, servedRate, keptRate}
 use Rattle.feed.specs.Ring.{opened, stored}
 use Rattle.feed.proofs.Sound.{Sound, sound}
 use Rattle.feed.proofs.Due.{held-after}

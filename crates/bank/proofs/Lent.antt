@@ -9,7 +9,7 @@ use borrow.Author.Tests.{eq-eqb, le-ltb}
 use Rattle.feed.specs.Answers.{Said}
 use Rattle.bank.specs.Slot.{slotAt, withSlot}
 use Rattle.bank.specs.Calls.{Outcome}
-use Rattle.bank.specs.Inside.{Lies}
+use Rattle.bank.specs.Inside.{StandsIn}
 use Rattle.bank.proofs.Slots.{put-back}
 
 -- a refusal that is not due is passed, and one that is due is given
@@ -19,7 +19,7 @@ pass x y e = ap (λ (u : Bool). cond u x y) e
 pub stop : {A : Type 0} {t : Bool} (x y : A) → t ≡ true → cond t x y ≡ x
 stop x y e = ap (λ (u : Bool). cond u x y) e
 
-module _ {bank : List ℕ} {slot : ℕ} {s : List ℕ} (l : Lies bank slot s) where
+module _ {bank : List ℕ} {slot : ℕ} {s : List ℕ} (l : StandsIn bank slot s) where
   -- 1 and 2 are passed
   pub inside : {A : Type 0} (x y z : A) → cond (not (eqb (length bank) 4096)) x (cond (ltb 15 slot) y z) ≡ z
   inside x y z = pass x _ (ap not (eq-eqb _ _ (l .whole))) ∙ pass y z (le-ltb _ _ (l .named))

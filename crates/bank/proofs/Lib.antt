@@ -9,7 +9,7 @@ pub mod Blank
 pub mod Lent
 pub mod Found
 pub mod Stray
-pub mod Laid
+pub mod Free
 pub mod States
 pub mod Beside
 pub mod Through

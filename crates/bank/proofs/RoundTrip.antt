@@ -5,8 +5,9 @@ use Prim.Native.Nat.{ℕ, zero, suc, _+_, _/_, _%_, _≤_, _<_}
 use native.Mathlib.Omega.{arith}
 use lib.ListN.{length, getD, take, drop, take-append-drop}
 use lib.Seq.{drop-drop, drop-cons}
-use Rattle.feed.specs.Places.{zeros, be16}
-use Rattle.bank.specs.Slot.{be32, stateOf, headOf, headBytes, placesIn, tailIn, tailOf, feedOf, slotOf}
+use Rattle.bits.specs.Bits.{be16, be32}
+use Rattle.feed.specs.Places.{zeros}
+use Rattle.bank.specs.Slot.{stateIn, headIn, headBytes, placesIn, tailIn, tailOf, feedIn, slotOf}
 
 -- every element is a byte
 abbrev pub Bytes : List ℕ → Type 0
@@ -23,9 +24,9 @@ spelt (suc n) k s h =
     let lt : k < length s = omega arith in
     rw (drop-cons s k 0 lt, spelt n (suc k) s (omega arith))
 
-module _ (s : List ℕ) (size : length s ≡ 256) (bytes : Bytes s) (one : stateOf s ≡ 1) where
-  head-put : headBytes (headOf s) ≡ take 11 s
-  unfolding headBytes headOf
+module _ (s : List ℕ) (size : length s ≡ 256) (bytes : Bytes s) (one : stateIn s ≡ 1) where
+  head-put : headBytes (headIn s) ≡ take 11 s
+  unfolding headBytes headIn
   head-put =
       let n : ℕ = be32 (getD s 4 0) (getD s 5 0) (getD s 6 0) (getD s 7 0) in
       let m : ℕ = be16 (getD s 8 0) (getD s 9 0) in
@@ -37,8 +38,8 @@ module _ (s : List ℕ) (size : length s ≡ 256) (bytes : Bytes s) (one : state
       let b9 : m % 256 ≡ getD s 9 0 = omega (arith, bytes 8, bytes 9) in
       rw (b4, b5, b6, b7, b8, b9) (sym (spelt 11 0 s (omega arith) ∙ rw one))
 
-  pub slot-back : tailIn s ≡ zeros 59 → slotOf (feedOf s) ≡ s
-  unfolding slotOf feedOf placesIn tailOf tailIn
+  pub slot-back : tailIn s ≡ zeros 59 → slotOf (feedIn s) ≡ s
+  unfolding slotOf feedIn placesIn tailOf tailIn
   slot-back tail =
       rw (head-put, ← tail, ← drop-drop 186 11 s, take-append-drop 186 (drop 11 s))
       (take-append-drop 11 s)

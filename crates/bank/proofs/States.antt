@@ -1,15 +1,15 @@
 -- Damage by the slot's state: over 1, free, open. Assumes nothing.
-use mathlib.Core.Path.{_≡_, refl, ap}
+use mathlib.Core.Path.{_≡_, refl, _∙_, ap}
 use mathlib.Core.Bool.{Bool, true, false, not, _||_}
 use mathlib.Core.List.{List}
 use Prim.Native.Nat.{ℕ, _<_}
 use lib.Dec.{ltb}
-use borrow.Author.Tests.{lt-ltb}
+use borrow.Author.Tests.{lt-ltb, ltb-true}
 use Rattle.feed.specs.declared.Head.{Head}
-use Rattle.model.specs.Sampling.{samplingOf}
+use Rattle.sampling.specs.Sampling.{samplingOf}
 use Rattle.feed.specs.Ring.{unserved, uneven, early, faulty}
-use Rattle.bank.specs.Slot.{stateOf, headOf}
-use Rattle.bank.specs.Damage.{blank, stray, damaged}
+use Rattle.bank.specs.Slot.{stateIn, headIn}
+use Rattle.bank.specs.Damage.{blank, stray, isDamaged}
 
 pub or-so : {t : Bool} (u : Bool) → t ≡ true → (t || u) ≡ true
 or-so u e = ap (λ (v : Bool). v || u) e
@@ -26,16 +26,16 @@ or-false true = refl
 or-false false = refl
 
 module _ (s : List ℕ) where
-  pub over-damaged : 1 < stateOf s → damaged s ≡ true
-  unfolding damaged
-  over-damaged h = rw (lt-ltb 1 (stateOf s) h)
+  pub over-damaged : 1 < stateIn s → isDamaged s ≡ true
+  unfolding isDamaged
+  over-damaged h = rw (lt-ltb 1 (stateIn s) h)
 
-  pub free-damaged : stateOf s ≡ 0 → damaged s ≡ not (blank s)
-  unfolding damaged
+  pub free-damaged : stateIn s ≡ 0 → isDamaged s ≡ not (blank s)
+  unfolding isDamaged
   free-damaged e = rw e (or-false (not (blank s)))
 
-  pub open-damaged : stateOf s ≡ 1 → damaged s ≡ (faulty (headOf s) || stray s)
-  unfolding damaged
+  pub open-damaged : stateIn s ≡ 1 → isDamaged s ≡ (faulty (headIn s) || stray s)
+  unfolding isDamaged
   open-damaged e = rw e
 
 -- place over 30
@@ -44,3 +44,12 @@ unfolding faulty
 place-over h over =
     let others = unserved h || not (ltb (h .index) (samplingOf (h .nominal))) || ltb 31 (h .held) in
     or-so (early h) (or-so (uneven h) (or-either others (lt-ltb 30 (h .place) over)))
+
+-- stray bytes or a place over 30: an open slot is then damaged
+module _ (s : List ℕ) where
+  pub stray-or-over : stateIn s ≡ 1 → (stray s || ltb 30 (headIn s .place)) ≡ true → isDamaged s ≡ true
+  stray-or-over one = go (stray s) refl
+    where
+      go : (t : Bool) → stray s ≡ t → (t || ltb 30 (headIn s .place)) ≡ true → isDamaged s ≡ true
+      go true p e = open-damaged s one ∙ or-either (faulty (headIn s)) p
+      go false p e = open-damaged s one ∙ or-so _ (place-over (headIn s) (ltb-true 30 (headIn s .place) e))

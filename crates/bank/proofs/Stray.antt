@@ -10,7 +10,7 @@ use lib.Seq.{drop-drop, length-take-le, take-all}
 use borrow.Author.Tests.{ltb-true, ltb-false, not-false}
 use Rattle.feed.specs.Places.{zeros}
 use Rattle.feed.proofs.Sound.{neither}
-use Rattle.bank.specs.Slot.{headOf, placesIn, tailIn}
+use Rattle.bank.specs.Slot.{headIn, placesIn, tailIn}
 use Rattle.bank.specs.Damage.{blank, stray}
 use Rattle.bank.proofs.Blank.{blank-zeros}
 use Rattle.bank.proofs.Slots.{drop-take}
@@ -41,5 +41,5 @@ module _ (s : List ℕ) (size : length s ≡ 256) where
   pub clean-tail : stray s ≡ false → tailIn s ≡ zeros 59
   unfolding stray tailIn
   clean-tail e =
-      let blank-tail = not-false _ (neither (not (blank (drop (6 * headOf s .held) (placesIn s)))) (not (blank (drop 197 s))) e .1) in
+      let blank-tail = not-false _ (neither (not (blank (drop (6 * headIn s .held) (placesIn s)))) (not (blank (drop 197 s))) e .1) in
       blank-zeros (drop 197 s) blank-tail ∙ ap zeros (length-drop 197 s ∙ omega arith)

@@ -5,7 +5,7 @@ ghost use mathlib.Core.Bool.{cond};
 ghost use Prim.Native.Nat.{_+_, _*_, _≤_};
 ghost use lib.Dec.{ltb};
 ghost use lib.ListN.{length};
-ghost use Rattle.bank.specs.Damage.{blank, stray, damaged};
+ghost use Rattle.bank.specs.Damage.{blank, stray, isDamaged};
 
 // Whether every byte is zero. There is no early end, so that many bytes are tested at once.
 pub(crate) fn is_blank(s: &[u8]) -> bool
@@ -45,7 +45,7 @@ pub(crate) fn is_stray(s: &[u8]) -> bool
 // Whether a slot is damaged.
 pub(crate) fn is_damaged(s: &[u8]) -> bool
     requires { ⌜ length (now s) ≡ 256 ⌝ }
-    ensures { λ r. ⌜ r ≡ damaged (now (s .entry)) ⌝ }
+    ensures { λ r. ⌜ r ≡ isDamaged (now (s .entry)) ⌝ }
 {
     let state = s[0];
     if state > 1 {

@@ -7,7 +7,7 @@ use feed::Answer;
 use model::Sample;
 ghost use mathlib.Core.Path.{_≡_};
 ghost use lib.ListN.{length};
-ghost use Rattle.bank.specs.Slot.{stateOf};
+ghost use Rattle.bank.specs.Slot.{stateIn};
 ghost use Rattle.bank.specs.Calls.{Pushing};
 ghost use Rattle.bank.specs.Inside.{Lent};
 
@@ -29,16 +29,14 @@ pub(crate) fn push_slot(slot: &mut [u8], s: Sample) -> Answer
     push_open(slot, s)
 }
 
-// A push, of an open slot. The feed passes through as one value and goes back; it refuses faulty numbers itself with 3, then 8.
+// A push, of an open slot. Stray bytes and a place over 30 are refused here; the feed passes through as one value, which refuses its other
+// faults with 3, then 8, and goes back.
 fn push_open(slot: &mut [u8], s: Sample) -> Answer
-    requires { ⌜ (length (now slot) ≡ 256) × (stateOf (now slot) ≡ 1) ⌝ }
+    requires { ⌜ (length (now slot) ≡ 256) × (stateIn (now slot) ≡ 1) ⌝ }
     ensures { λ r. ⌜ Lent (λ bank n after. Pushing bank n s r after) (now (slot .entry)) (now (slot .exit)) ⌝ }
 {
-    if is_stray(slot) {
-        return Answer::Refused(3);
-    }
     let place = slot[10];
-    if place > 30 {
+    if is_stray(slot) | (place > 30) {
         return Answer::Refused(3);
     }
     let feed = read_feed(slot);

@@ -1,15 +1,16 @@
 // Document 01, "The bank": what stands where in a slot of 256 bytes.
+use bits::be16;
+use bits::be32;
 use feed::Feed;
 use feed::Head;
 ghost use mathlib.Core.Path.{_≡_};
 ghost use Prim.Native.Nat.{_+_, _*_, _≤_, _<_};
-ghost use lib.ListN.{length, getD};
-ghost use Rattle.feed.specs.Places.{zeros, be16};
-ghost use Rattle.bank.specs.Slot.{headOf, headBytes, placesIn, feedOf, slotOf};
-ghost use Rattle.bank.specs.Inside.{Beside};
-ghost use Rattle.bank.specs.Calls.{wrongLength, noSlot};
-ghost use Rattle.refusals.specs.Refusals.{unlessRefused};
-ghost use mathlib.Core.List.{[], _∷_};
+ghost use lib.ListN.{length, take, drop};
+ghost use Rattle.bits.specs.Bits.{be16};
+ghost use Rattle.feed.specs.Places.{zeros};
+ghost use Rattle.bank.specs.Slot.{headIn, headBytes, placesIn, feedIn, slotOf};
+ghost use Rattle.bank.specs.Inside.{Finds, withPart, Beside};
+ghost use mathlib.Core.List.{_++_};
 
 // Where a slot begins in its bank, or the refusal.
 pub(crate) enum Found {
@@ -19,7 +20,7 @@ pub(crate) enum Found {
 
 // The slot of that number in a bank: refused 1, 2.
 pub(crate) fn find(bank: &[u8], slot: u8) -> Found
-    ensures { λ r. ⌜ r ≡ unlessRefused (wrongLength (now (bank .entry)) ∷ noSlot slot ∷ []) Found.Refused (Found.At (256 * slot)) ⌝ }
+    ensures { λ r. ⌜ Finds (now (bank .entry)) slot r ⌝ }
 {
     if bank.len() != 4096 {
         return Found::Refused(1);
@@ -49,33 +50,17 @@ fn put(to: &mut [u8], from: &[u8])
     bytes::copy(from, to);
 }
 
-// The number in two bytes, big-endian.
-fn be16_at(s: &[u8], i: usize) -> u16
-    requires { ⌜ i + 1 < length (now s) ⌝ }
-    ensures { λ r. ⌜ r ≡ be16 (getD (now (s .entry)) i 0) (getD (now (s .entry)) (i + 1) 0) ⌝ }
-{
-    256 * (s[i] as u16) + (s[i + 1] as u16)
-}
-
-// The SOC of the next sample, bytes 4 to 7.
-fn read_soc(s: &[u8]) -> u32
-    requires { ⌜ length (now s) ≡ 256 ⌝ }
-    ensures { λ r. ⌜ r ≡ headOf (now (s .entry)) .soc ⌝ }
-{
-    (be16_at(s, 4) as u32) * 65536 + (be16_at(s, 6) as u32)
-}
-
 // The numbers of an open slot, bytes 1 to 10.
 pub(crate) fn read_head(s: &[u8]) -> Head
     requires { ⌜ length (now s) ≡ 256 ⌝ }
-    ensures { λ r. ⌜ r ≡ headOf (now (s .entry)) ⌝ }
+    ensures { λ r. ⌜ r ≡ headIn (now (s .entry)) ⌝ }
 {
     Head {
         nominal: s[1],
         rate: s[2],
         held: s[3],
-        soc: read_soc(s),
-        index: be16_at(s, 8),
+        soc: be32(s[4], s[5], s[6], s[7]),
+        index: be16(s[8], s[9]),
         place: s[10],
     }
 }
@@ -93,7 +78,7 @@ fn read_places(s: &[u8]) -> [u8; 186]
 // The feed that an open slot keeps.
 pub(crate) fn read_feed(s: &[u8]) -> Feed
     requires { ⌜ length (now s) ≡ 256 ⌝ }
-    ensures { λ r. ⌜ r ≡ feedOf (now (s .entry)) ⌝ }
+    ensures { λ r. ⌜ r ≡ feedIn (now (s .entry)) ⌝ }
 {
     let head = read_head(s);
     let places = read_places(s);
@@ -119,16 +104,25 @@ fn head_bytes(h: Head) -> [u8; 11]
     ]
 }
 
-// A feed goes into its slot: the numbers, the places, then zeros.
-pub(crate) fn put_feed(s: &mut [u8], f: Feed)
+// The numbers go into a slot, as bytes 0 to 10 of an open one. The other bytes stay.
+pub(crate) fn put_head(s: &mut [u8], h: Head)
     requires { ⌜ length (now s) ≡ 256 ⌝ }
-    ensures { λ _. ⌜ now (s .exit) ≡ slotOf f ⌝ }
+    ensures { λ _. ⌜ now (s .exit) ≡ headBytes h ++ drop 11 (now (s .entry)) ⌝ }
 {
-    let places = f.places;
-    let head = head_bytes(f.head);
+    let head = head_bytes(h);
     put(&mut s[0..11], &head);
-    put(&mut s[11..197], &places);
-    zero(&mut s[197..256]);
+}
+
+// One of the places goes into a slot. The other bytes stay.
+fn put_place(s: &mut [u8], place: u8, places: &[u8])
+    requires { ⌜ (length (now s) ≡ 256) × (length (now places) ≡ 186) × (place ≤ 30) ⌝ }
+    ensures { λ _. ⌜ now (s .exit) ≡ withPart (11 + 6 * place) 6 (take 6 (drop (6 * place) (now (places .entry)))) (now (s .entry)) ⌝ }
+{
+    let at = 6 * (place as usize);
+    let end = at + 6;
+    let from = 11 + at;
+    let to = from + 6;
+    put(&mut s[from..to], &places[at..end]);
 }
 
 // A feed goes back into its slot after a push: the numbers, and the place of the sample. The slot's other bytes are the feed's already.
@@ -138,11 +132,6 @@ pub(crate) fn put_back(s: &mut [u8], place: u8, f: Feed)
     ensures { λ _. ⌜ now (s .exit) ≡ slotOf f ⌝ }
 {
     let places = f.places;
-    let head = head_bytes(f.head);
-    put(&mut s[0..11], &head);
-    let at = 6 * (place as usize);
-    let end = at + 6;
-    let from = 11 + at;
-    let to = from + 6;
-    put(&mut s[from..to], &places[at..end]);
+    put_head(s, f.head);
+    put_place(s, place, &places);
 }

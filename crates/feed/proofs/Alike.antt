@@ -12,9 +12,9 @@ use Rattle.model.specs.declared.filter.Sample.{Sample}
 use Rattle.model.specs.Filter.{windowed, noSample}
 use Rattle.model.specs.Report.{threePhase}
 use Rattle.model.proofs.Same.{figures-same}
-use Rattle.feed.specs.Tags.{nominalOf, socOf, indexOf}
+use Rattle.sampling.specs.Tags.{nominalOf, socOf, indexOf}
 use Rattle.feed.specs.Answers.{Said, refused, taken, tagged}
-use Rattle.feed.specs.History.{History, nextNumber, grown, isDue, reportAt, answered, lastSample, Told, told}
+use Rattle.feed.specs.History.{History, nextNumber, centreOf, grown, isDue, reportAt, answered, endOfTime, Told, told}
 use Rattle.feed.specs.Ring.{lastOf}
 use Rattle.feed.proofs.Latest.{length-last, last-snoc, last-last}
 
@@ -44,7 +44,7 @@ windowed-latest xs first n h l =
 
 -- whether the next sample is the last that SOC 4294967295 has
 abbrev pub isLast : History → Bool
-isLast h = (lastSample (h .nominal) (socOf (h .nominal) (nextNumber h)) (indexOf (h .nominal) (nextNumber h))) .due
+isLast h = (endOfTime (h .nominal) (socOf (h .nominal) (nextNumber h)) (indexOf (h .nominal) (nextNumber h))) .due
 
 pub told-last : (h : History) (s : Sample) → isLast h ≡ true → told h s ≡ record { answer = refused 8; history = h }
 unfolding told
@@ -81,19 +81,19 @@ module _ (h k : History) (a : Alike h k) where
       ∙ ap₂ (λ (xs : List Sample) (m : ℕ). getD xs (n + 31 - m) noSample) (a .latest-same) (a .next-same)
       ∙ sym (windowed-latest (k .samples) (k .first) n (omega (arith, held-same)) (omega (arith, a .next-same)))
 
-  report-same : 31 ≤ length (h .samples) → reportAt h (nextNumber h - 16) ≡ reportAt k (nextNumber k - 16)
+  report-same : 31 ≤ length (h .samples) → reportAt h (centreOf h) ≡ reportAt k (centreOf k)
   unfolding reportAt
   report-same l =
       rw (← a .nominal-same, ← a .rate-same, ← a .next-same)
       (ap (tagged _ _)
-      (figures-same (windowed (h .samples) (h .first)) (windowed (k .samples) (k .first)) (nextNumber h - 16) (nextNumber h - 16)
-      (omega arith) (omega arith) refl (λ j p. sample-same l (nextNumber h - 16 + j - 15) (omega arith)) threePhase (nominalOf (h .nominal))))
+      (figures-same (windowed (h .samples) (h .first)) (windowed (k .samples) (k .first)) (centreOf h) (centreOf h)
+      (omega arith) (omega arith) refl (λ j p. sample-same l (centreOf h + j - 15) (omega arith)) threePhase (nominalOf (h .nominal))))
 
   pub answered-same : answered h ≡ answered k
   unfolding answered isDue
   answered-same = rw (← due-same) (go (leb 31 (length (h .samples))) refl)
     where
-      go : (b : Bool) → leb 31 (length (h .samples)) ≡ b → cond (isDue h) (reportAt h (nextNumber h - 16)) taken ≡ cond (isDue h) (reportAt k (nextNumber k - 16)) taken
+      go : (b : Bool) → leb 31 (length (h .samples)) ≡ b → cond (isDue h) (reportAt h (centreOf h)) taken ≡ cond (isDue h) (reportAt k (centreOf k)) taken
       go true e = ap (λ (r : Said). cond (isDue h) r taken) (report-same (leb-true 31 (length (h .samples)) e))
       go false e = rw e
 

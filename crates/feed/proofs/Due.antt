@@ -1,5 +1,5 @@
 -- The report that comes with a sample, told of the head before it, is the one that the history rule gives of the samples then held: where
--- thirty were held the ring read oldestFirst is the whole history, where fewer were neither gives one. Assumes nothing.
+-- thirty were held the places read round are the whole history, where fewer were neither gives one. Assumes nothing.
 use mathlib.Core.Path.{_≡_, refl, ap, _∙_}
 use mathlib.Core.Bool.{Bool, true, false, cond}
 use mathlib.Core.List.{List}
@@ -11,12 +11,12 @@ use borrow.Author.Tests.{leb-true, leb-false, le-leb, lt-leb, ltb-true, ltb-fals
 use Rattle.model.specs.declared.filter.Sample.{Sample}
 use Rattle.feed.specs.declared.Head.{Head}
 use Rattle.feed.specs.declared.Feed.{Feed}
-use Rattle.model.specs.Sampling.{samplingOf}
+use Rattle.sampling.specs.Sampling.{samplingOf}
 use Rattle.feed.specs.Answers.{taken}
-use Rattle.feed.specs.History.{History, nextNumber, isDue, reportAt, answered}
+use Rattle.feed.specs.History.{History, centreOf, lastIndex, isDue, reportAt, answered}
 use Rattle.feed.specs.Places.{samplesOf}
-use Rattle.feed.specs.Ring.{nextOf, turns, nextHead, oldestFirst, lastOf, historyOf}
-use Rattle.feed.specs.Newest.{centreNumber, dueWith, reportWith}
+use Rattle.feed.specs.Ring.{nextNumberOf, nextHead, oldestFirst, lastOf, historyOf}
+use Rattle.feed.specs.Inside.{centreNumber, dueWith, reportWith}
 use Rattle.feed.proofs.Sound.{Sound}
 use Rattle.feed.proofs.Standing.{started}
 use Rattle.feed.proofs.Samples.{samples-length}
@@ -41,11 +41,11 @@ module _ (h : Head) (s : Sound h) where
       go true e = omega arith
       go false e = let n = eqb-false (h .place) 30 e in omega (arith, s .place)
 
-  pub clock-after : nextOf (nextHead h) ≡ nextOf h + 1
+  pub clock-after : nextNumberOf (nextHead h) ≡ nextNumberOf h + 1
   unfolding nextHead
-  clock-after = go (turns h) refl
+  clock-after = go (lastIndex (h .nominal) (h .index)) refl
     where
-      go : (b : Bool) → turns h ≡ b → cond b (h .soc + 1) (h .soc) * samplingOf (h .nominal) + cond b 0 (h .index + 1) ≡ nextOf h + 1
+      go : (b : Bool) → lastIndex (h .nominal) (h .index) ≡ b → cond b (h .soc + 1) (h .soc) * samplingOf (h .nominal) + cond b 0 (h .index + 1) ≡ nextNumberOf h + 1
       go true e = omega (arith, eqb-true (h .index + 1) (samplingOf (h .nominal)) e)
       go false e = omega arith
 
@@ -66,9 +66,9 @@ module _ (h : Head) (s : Sound h) (p : List ℕ) where
 
   -- all that is told, where thirty were held
   told : History
-  told = record { nominal = h .nominal; rate = h .rate; first = nextOf h - 30; samples = window }
+  told = record { nominal = h .nominal; rate = h .rate; first = nextNumberOf h - 30; samples = window }
 
-  first-is : 30 ≤ h .held → nextOf (nextHead h) - nextHead h .held ≡ nextOf h - 30
+  first-is : 30 ≤ h .held → nextNumberOf (nextHead h) - nextHead h .held ≡ nextNumberOf h - 30
   first-is full = omega (arith, held-after h s, clock-after h s, started h s)
 
   samples-are : 30 ≤ h .held → lastOf (nextHead h .held) window ≡ window
@@ -80,7 +80,7 @@ module _ (h : Head) (s : Sound h) (p : List ℕ) where
   unfolding historyOf told nextHead
   whole full = λ i. record { nominal = h .nominal; rate = h .rate; first = first-is full i; samples = samples-are full i }
 
-  at-centre : 30 ≤ h .held → nextNumber told - 16 ≡ centreNumber h
+  at-centre : 30 ≤ h .held → centreOf told ≡ centreNumber h
   unfolding told
   at-centre full = omega (arith, window-length, started h s)
 

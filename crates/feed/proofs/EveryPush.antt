@@ -6,7 +6,7 @@ use Prim.Native.Nat.{ℕ}
 use lib.ListN.{length}
 use Rattle.model.specs.declared.filter.Sample.{Sample}
 use Rattle.feed.specs.declared.Feed.{Feed}
-use Rattle.feed.specs.Tags.{servedNominal, servedRate, keptRate}
+use Rattle.sampling.specs.Tags.{servedNominal, servedRate, keptRate}
 use Rattle.feed.specs.Answers.{Said}
 use Rattle.feed.specs.History.{History, opening, told}
 use Rattle.feed.specs.Ring.{faulty, opened, historyOf, pushed}
@@ -35,8 +35,8 @@ ring-meets-rule f h k (s ∷ ss) fits =
 
 -- from a fresh opening
 pub from-opening : (nominal rate soc : ℕ) → servedNominal nominal ≡ true → servedRate nominal (keptRate nominal rate) ≡ true
-    → (ss : List Sample) → AllFit16 ss → pushes (opened nominal rate soc) ss ≡ tells (opening nominal (keptRate nominal rate) soc) ss
-from-opening nominal rate soc a b = ring-meets-rule (opened nominal rate soc) (opening nominal (keptRate nominal rate) soc) (opening-kept nominal rate soc a b)
+    → (ss : List Sample) → AllFit16 ss → pushes (opened nominal rate soc) ss ≡ tells (opening nominal rate soc) ss
+from-opening nominal rate soc a b = ring-meets-rule (opened nominal rate soc) (opening nominal rate soc) (opening-kept nominal rate soc a b)
 
 -- from any feed with samples held
 pub from-held : (f : Feed) → faulty (f .head) ≡ false → length (f .places) ≡ 186 → (ss : List Sample) → AllFit16 ss → pushes f ss ≡ tells (historyOf f) ss

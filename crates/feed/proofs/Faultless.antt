@@ -7,9 +7,10 @@ use native.Mathlib.Omega.{arith}
 use lib.Dec.{ltb, eqb}
 use borrow.Author.Tests.{ltb-true, ltb-false, lt-ltb, le-ltb, eqb-true, eqb-false, eq-eqb, ne-eqb}
 use Rattle.feed.specs.declared.Head.{Head}
-use Rattle.feed.specs.Tags.{servedNominal, among, servedRate, keptRate}
-use Rattle.model.specs.Sampling.{samplingOf}
-use Rattle.feed.specs.Ring.{unserved, uneven, early, faulty, opened, turns, nextHead}
+use Rattle.sampling.specs.Tags.{servedNominal, among, servedRate, keptRate}
+use Rattle.sampling.specs.Sampling.{samplingOf}
+use Rattle.feed.specs.History.{lastIndex}
+use Rattle.feed.specs.Ring.{unserved, uneven, early, faulty, opened, nextHead}
 use Rattle.feed.proofs.Sound.{Sound, sound, neither, served}
 use Rattle.feed.proofs.Due.{held-after, place-after}
 
@@ -86,11 +87,11 @@ unfolding faulty
 is-served h e = neither _ _ (neither _ _ (neither _ _ (neither _ _ (neither _ _ e .0) .0) .0) .0) .0
 
 module _ (h : Head) (s : Sound h) where
-  index-next : (b : Bool) → turns h ≡ b → (nextHead h) .index ≡ cond b 0 (h .index + 1)
+  index-next : (b : Bool) → lastIndex (h .nominal) (h .index) ≡ b → (nextHead h) .index ≡ cond b 0 (h .index + 1)
   unfolding nextHead
   index-next b e = rw e
 
-  soc-next : (b : Bool) → turns h ≡ b → (nextHead h) .soc ≡ cond b (h .soc + 1) (h .soc)
+  soc-next : (b : Bool) → lastIndex (h .nominal) (h .index) ≡ b → (nextHead h) .soc ≡ cond b (h .soc + 1) (h .soc)
   unfolding nextHead
   soc-next b e = rw e
 
@@ -99,9 +100,9 @@ module _ (h : Head) (s : Sound h) where
   place-next b e = rw e
 
   index-stays-in : (nextHead h) .index < samplingOf (h .nominal)
-  index-stays-in = go (turns h) refl
+  index-stays-in = go (lastIndex (h .nominal) (h .index)) refl
     where
-      go : (b : Bool) → turns h ≡ b → (nextHead h) .index < samplingOf (h .nominal)
+      go : (b : Bool) → lastIndex (h .nominal) (h .index) ≡ b → (nextHead h) .index < samplingOf (h .nominal)
       go true e = omega (arith, index-next true e, s .index)
       go false e = omega (arith, index-next false e, s .index, eqb-false (h .index + 1) (samplingOf (h .nominal)) e)
 
@@ -118,9 +119,9 @@ module _ (h : Head) (s : Sound h) where
       omega (arith, index-next false (ne-eqb (h .index + 1) (samplingOf (h .nominal)) (λ e. omega (arith, s .rated .low))))
 
   late-goes-on : (nextHead h) .held ≡ 31 → (nextHead h) .soc ≡ 0 → 31 ≤ (nextHead h) .index
-  late-goes-on l z = go (turns h) refl (ltb (h .held) 31) refl
+  late-goes-on l z = go (lastIndex (h .nominal) (h .index)) refl (ltb (h .held) 31) refl
     where
-      go : (b : Bool) → turns h ≡ b → (c : Bool) → ltb (h .held) 31 ≡ c → 31 ≤ (nextHead h) .index
+      go : (b : Bool) → lastIndex (h .nominal) (h .index) ≡ b → (c : Bool) → ltb (h .held) 31 ≡ c → 31 ≤ (nextHead h) .index
       go true e c q = absurd (omega (arith, soc-next true e))
       go false e true q = omega (arith, index-next false e, held-after h s, s .even-index (ltb-true (h .held) 31 q))
       go false e false q =

@@ -1,4 +1,4 @@
--- The last few of a list, and a list read oldestFirst from a place: a store in the next place drops the oldest and puts the new one last.
+-- The last few of a list, and a list read round from a place: a store in the next place drops the oldest and puts the new one last.
 use mathlib.Core.Path.{_≡_, refl, sym, ap, _∙_}
 use mathlib.Core.Bool.{Bool, true, false, cond}
 use mathlib.Core.List.{List, [], _∷_, _++_, append-assoc, append-nil}

@@ -8,11 +8,11 @@ use lib.Arith.{digits-div, digits-mod}
 use lib.ListN.{length, drop, length-append, length-replicate}
 use Rattle.model.specs.declared.filter.Sample.{Sample}
 use Rattle.feed.specs.declared.Feed.{Feed}
-use Rattle.feed.specs.Tags.{servedNominal, servedRate, keptRate}
+use Rattle.sampling.specs.Tags.{servedNominal, servedRate, keptRate}
 use Rattle.feed.specs.Answers.{refused}
 use Rattle.feed.specs.History.{History, nextNumber, opening, grown, answered, Told, told}
 use Rattle.feed.specs.Places.{zeros, samplesOf}
-use Rattle.feed.specs.Ring.{faulty, nextOf, opened, nextHead, stored, oldestFirst, lastOf, historyOf, endOfTime, Next, pushed}
+use Rattle.feed.specs.Ring.{faulty, nextNumberOf, opened, nextHead, stored, oldestFirst, lastOf, historyOf, endOfTimeOf, Next, pushed}
 use Rattle.feed.proofs.Sound.{Sound, sound}
 use Rattle.feed.proofs.Standing.{started}
 use Rattle.feed.proofs.Samples.{samples-length}
@@ -43,7 +43,7 @@ module _ (f : Feed) (n : Sound (f .head)) where
   unfolding historyOf
   held-is = length-last (f .head .held) (ringOf f) ∙ omega (arith, ring-length, n .held)
 
-  next-is : nextNumber (historyOf f) ≡ nextOf (f .head)
+  next-is : nextNumber (historyOf f) ≡ nextNumberOf (f .head)
   unfolding historyOf
   next-is = omega (arith, held-is, started (f .head) n)
 
@@ -86,7 +86,7 @@ module _ (f : Feed) (s : Sample) (n : Sound (f .head)) (whole : length (f .place
   unfolding historyOf stored nextHead
   rate-after = refl
 
-  number-after : nextOf ((stored f s) .head) ≡ nextOf (f .head) + 1
+  number-after : nextNumberOf ((stored f s) .head) ≡ nextNumberOf (f .head) + 1
   unfolding stored
   number-after = clock-after (f .head) n
 
@@ -111,7 +111,7 @@ module _ (nominal rate soc : ℕ) where
   unfolding opened zeros
   opened-whole = length-replicate {A = ℕ} 186 0
 
-  opened-alike : Sound ((opened nominal rate soc) .head) → Alike (historyOf (opened nominal rate soc)) (opening nominal (keptRate nominal rate) soc)
+  opened-alike : Sound ((opened nominal rate soc) .head) → Alike (historyOf (opened nominal rate soc)) (opening nominal rate soc)
   unfolding historyOf opened opening
   opened-alike n = record {
     nominal-same = refl;
@@ -121,7 +121,7 @@ module _ (nominal rate soc : ℕ) where
   }
 
   pub opening-kept : servedNominal nominal ≡ true → servedRate nominal (keptRate nominal rate) ≡ true
-      → Keeps (opened nominal rate soc) (opening nominal (keptRate nominal rate) soc)
+      → Keeps (opened nominal rate soc) (opening nominal rate soc)
   opening-kept a b =
       let e = opened-sound nominal rate soc a b in
       record { faultless = e; whole = opened-whole; alike = opened-alike (sound _ e) }
@@ -136,11 +136,11 @@ module _ (f : Feed) (h : History) (k : Keeps f h) where
       sym (last-all 31 ((historyOf f) .samples) (omega (arith, held-is f n, n .held))) ∙ k .alike .latest-same
 
   -- whether the sample is the last that SOC 4294967295 has, told of the feed's numbers and told of the history
-  pub last-same : isLast h ≡ (endOfTime (f .head)) .due
+  pub last-same : isLast h ≡ (endOfTimeOf (f .head)) .due
   unfolding historyOf
   last-same =
       let n = sound (f .head) (k .faultless) in
-      let c : nextNumber h ≡ nextOf (f .head) = sym (k .alike .next-same) ∙ next-is f n in
+      let c : nextNumber h ≡ nextNumberOf (f .head) = sym (k .alike .next-same) ∙ next-is f n in
       let m : h .nominal ≡ f .head .nominal = sym (k .alike .nominal-same) in
       rw (m, c, digits-div (f .head .soc) (n .index), digits-mod (f .head .soc) (n .index))
 
@@ -157,11 +157,11 @@ module _ (f : Feed) (h : History) (k : Keeps f h) where
     pub stored-kept : Keeps (stored f s) (grown h s)
     stored-kept = record { faultless = stored-sound f s (k .faultless); whole = stored-whole f s (k .faultless) (k .whole); alike = on }
 
-pub pushed-last : (f : Feed) (s : Sample) → faulty (f .head) ≡ false → (endOfTime (f .head)) .due ≡ true → pushed f s ≡ record { answer = refused 8; feed = f }
+pub pushed-last : (f : Feed) (s : Sample) → faulty (f .head) ≡ false → (endOfTimeOf (f .head)) .due ≡ true → pushed f s ≡ record { answer = refused 8; feed = f }
 unfolding pushed
 pushed-last f s e d = rw (e, d)
 
-pub pushed-on : (f : Feed) (s : Sample) → faulty (f .head) ≡ false → (endOfTime (f .head)) .due ≡ false
+pub pushed-on : (f : Feed) (s : Sample) → faulty (f .head) ≡ false → (endOfTimeOf (f .head)) .due ≡ false
     → pushed f s ≡ record { answer = answered (historyOf (stored f s)); feed = stored f s }
 unfolding pushed
 pushed-on f s e d = rw (e, d)
@@ -172,9 +172,9 @@ pub record Met (p : Next) (t : Told) : Type 0 where
   pub still-keeps : Keeps (p .feed) (t .history)
 
 pub push-meets : (f : Feed) (h : History) → Keeps f h → (s : Sample) → Fits16 s → Met (pushed f s) (told h s)
-push-meets f h k s fits = go ((endOfTime (f .head)) .due) refl
+push-meets f h k s fits = go ((endOfTimeOf (f .head)) .due) refl
   where
-    go : (b : Bool) → (endOfTime (f .head)) .due ≡ b → Met (pushed f s) (told h s)
+    go : (b : Bool) → (endOfTimeOf (f .head)) .due ≡ b → Met (pushed f s) (told h s)
     go true e = rw (pushed-last f s (k .faultless) e, told-last h s (last-same f h k ∙ e)) (record { answer-same = refl; still-keeps = k })
     go false e =
         rw (pushed-on f s (k .faultless) e, told-on h s (last-same f h k ∙ e))

@@ -12,8 +12,8 @@ use Rattle.feed.specs.declared.Feed.{Feed}
 use Rattle.feed.specs.Answers.{Said, refused, taken}
 use Rattle.feed.specs.History.{answered}
 use Rattle.feed.specs.Places.{samplesOf, withPlace}
-use Rattle.feed.specs.Ring.{Next, faulty, faultyHead, endOfTime, stored, oldestFirst, historyOf, pushed}
-use Rattle.feed.specs.Newest.{dueWith, reportWith}
+use Rattle.feed.specs.Ring.{Next, faulty, faultyHead, endOfTimeOf, stored, oldestFirst, historyOf, pushed}
+use Rattle.feed.specs.Inside.{dueWith, reportWith}
 use Rattle.feed.proofs.Sound.{sound}
 use Rattle.feed.proofs.Due.{answer-is}
 
@@ -35,13 +35,13 @@ module _ (f : Feed) (s : Sample) where
 
   pub refused-3 : faulty (f .head) ≡ true → _≡_ {A = Next} (record { answer = refused 3; feed = f }) (pushed f s)
   unfolding pushed refuse grant
-  refused-3 e = sym (stop (faultyHead (f .head)) (endOfTime (f .head) ∷ []) refuse grant e)
+  refused-3 e = sym (stop (faultyHead (f .head)) (endOfTimeOf (f .head) ∷ []) refuse grant e)
 
-  pub refused-8 : faulty (f .head) ≡ false → endOfTime (f .head) .due ≡ true → _≡_ {A = Next} (record { answer = refused 8; feed = f }) (pushed f s)
+  pub refused-8 : faulty (f .head) ≡ false → endOfTimeOf (f .head) .due ≡ true → _≡_ {A = Next} (record { answer = refused 8; feed = f }) (pushed f s)
   unfolding pushed refuse grant
-  refused-8 e d = sym (pass (faultyHead (f .head)) (endOfTime (f .head) ∷ []) refuse grant e ∙ stop (endOfTime (f .head)) [] refuse grant d)
+  refused-8 e d = sym (pass (faultyHead (f .head)) (endOfTimeOf (f .head) ∷ []) refuse grant e ∙ stop (endOfTimeOf (f .head)) [] refuse grant d)
 
-  module _ (e : faulty (f .head) ≡ false) (d : endOfTime (f .head) .due ≡ false) where
+  module _ (e : faulty (f .head) ≡ false) (d : endOfTimeOf (f .head) .due ≡ false) where
     -- the samples that are held then, oldest first
     abbrev pub held-then : List Sample
     held-then = oldestFirst (stored f s .head .place) (samplesOf 31 (stored f s .places))
@@ -56,7 +56,7 @@ module _ (f : Feed) (s : Sample) where
         let a : cond b (reportWith (f .head) held-then) taken ≡ answered (historyOf (stored f s)) =
         sym (stored-answer ∙ ap (λ (v : Bool). cond v (reportWith (f .head) held-then) taken) t) in
         ap (λ (x : Said). record { answer = x; feed = stored f s }) a
-        ∙ sym (pass (faultyHead (f .head)) (endOfTime (f .head) ∷ []) refuse grant e ∙ pass (endOfTime (f .head)) [] refuse grant d)
+        ∙ sym (pass (faultyHead (f .head)) (endOfTimeOf (f .head) ∷ []) refuse grant e ∙ pass (endOfTimeOf (f .head)) [] refuse grant d)
 
     pub reported : dueWith (f .head) ≡ true → (g : Feed) → g ≡ stored f s → (a : Said) → a ≡ reportWith (f .head) (oldestFirst (g .head .place) (samplesOf 31 (g .places)))
         → _≡_ {A = Next} (record { answer = a; feed = g }) (pushed f s)

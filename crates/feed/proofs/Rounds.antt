@@ -1,4 +1,4 @@
--- A list of thirty-one read oldestFirst from a place: element j is the one j places on, modulo 31. Assumes nothing.
+-- A list of thirty-one read round from a place: element j is the one j places on, modulo 31. Assumes nothing.
 use mathlib.Core.Path.{_≡_, refl, ap, _∙_}
 use mathlib.Core.Bool.{Bool, true, false, cond}
 use mathlib.Core.List.{List}

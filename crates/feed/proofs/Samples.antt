@@ -3,33 +3,33 @@ use mathlib.Core.Path.{_≡_, refl, ap, _∙_}
 use mathlib.Core.List.{List}
 use Prim.Native.Nat.{ℕ, zero, suc, _+_, _*_, _<_}
 use native.Mathlib.Omega.{arith}
-use native.Mathlib.Nat.{add-zero}
 use lib.Dec.{lit<}
+use lib.IntN.{ℤ}
 use lib.ListN.{length, getD, take, drop}
 use lib.Seq.{getD-take, getD-drop, drop-drop}
 use Rattle.model.specs.Filter.{noSample}
-use Rattle.feed.specs.Places.{be16, signed16, sampleOf, samplesOf}
+use Rattle.bits.specs.Bits.{be16, signed16}
+use Rattle.feed.specs.Places.{sampleOf, samplesOf}
 
 -- byte k of six that start somewhere
-byte-of : (l : List ℕ) (at k : ℕ) → k < 6 → getD (take 6 (drop at l)) k 0 ≡ getD l (at + k) 0
-byte-of l at k h = getD-take 6 (drop at l) k 0 h ∙ getD-drop at l k 0
+byte-of : (l : List ℕ) (at k n : ℕ) → k < 6 → at + k ≡ n → getD (take 6 (drop at l)) k 0 ≡ getD l n 0
+byte-of l at k n h e = getD-take 6 (drop at l) k 0 h ∙ getD-drop at l k 0 ∙ ap (λ (m : ℕ). getD l m 0) e
+
+-- the signed number in two bytes
+abbrev pub word-at : List ℕ → ℕ → ℤ
+word-at l at = signed16 (be16 (getD l at 0) (getD l (at + 1) 0))
 
 -- the sample in six bytes that start somewhere
-pub six-bytes : (l : List ℕ) (at : ℕ) → sampleOf (take 6 (drop at l)) ≡ record {
-  a = signed16 (be16 (getD l at 0) (getD l (at + 1) 0));
-  b = signed16 (be16 (getD l (at + 2) 0) (getD l (at + 3) 0));
-  c = signed16 (be16 (getD l (at + 4) 0) (getD l (at + 5) 0));
-}
+pub six-bytes : (l : List ℕ) (at : ℕ) → sampleOf (take 6 (drop at l)) ≡ record { a = word-at l at; b = word-at l (at + 2); c = word-at l (at + 4) }
 unfolding sampleOf
 six-bytes l at =
-    let first : getD (take 6 (drop at l)) 0 0 ≡ getD l at 0 = byte-of l at 0 (lit< tt) ∙ ap (λ (k : ℕ). getD l k 0) (add-zero at) in
     rw (
-      first,
-      byte-of l at 1 (lit< tt),
-      byte-of l at 2 (lit< tt),
-      byte-of l at 3 (lit< tt),
-      byte-of l at 4 (lit< tt),
-      byte-of l at 5 (lit< tt),
+      byte-of l at 0 at (lit< tt) (omega arith),
+      byte-of l at 1 (at + 1) (lit< tt) refl,
+      byte-of l at 2 (at + 2) (lit< tt) refl,
+      byte-of l at 3 (at + 2 + 1) (lit< tt) (omega arith),
+      byte-of l at 4 (at + 4) (lit< tt) refl,
+      byte-of l at 5 (at + 4 + 1) (lit< tt) (omega arith),
     )
 
 pub samples-length : (n : ℕ) (p : List ℕ) → length (samplesOf n p) ≡ n

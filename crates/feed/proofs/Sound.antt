@@ -8,9 +8,9 @@ use lib.Dec.{T, leb, eqb, lit≤, leb→le, eqb→eq}
 use mir.Facts.{and-yes}
 use borrow.Author.Tests.{eqb-true, eq-eqb, lt-ltb, ltb-true, ltb-false, not-false}
 use Rattle.feed.specs.declared.Head.{Head}
-use Rattle.feed.specs.Tags.{servedNominal, servedRate, rates, among, spacing}
-use Rattle.model.specs.Sampling.{samplingOf}
-use Rattle.feed.specs.Ring.{unserved, uneven, early, faulty, endOfTime}
+use Rattle.sampling.specs.Tags.{servedNominal, servedRate, rates, among, spacing}
+use Rattle.sampling.specs.Sampling.{samplingOf}
+use Rattle.feed.specs.Ring.{unserved, uneven, early, faulty, endOfTimeOf}
 
 clash : true ≡ false → ⊥
 clash e = let z : _≡_ {A = ℕ} 0 1 = cc in omega arith
@@ -103,5 +103,5 @@ sound h e =
     }
 
 -- a second that ends before the end of time is not the last
-pub not-last : (h : Head) → endOfTime h .due ≡ false → h .index + 1 ≡ samplingOf (h .nominal) → h .soc ≡ 4294967295 → ⊥
+pub not-last : (h : Head) → endOfTimeOf h .due ≡ false → h .index + 1 ≡ samplingOf (h .nominal) → h .soc ≡ 4294967295 → ⊥
 not-last h e l s = clash (rw (eq-eqb (h .soc) 4294967295 s, eq-eqb (h .index + 1) (samplingOf (h .nominal)) l) at e)

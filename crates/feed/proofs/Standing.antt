@@ -10,10 +10,10 @@ use borrow.Author.Tests.{ltb-true, ltb-false}
 use lib.Arith.{digits-div, digits-mod}
 use Rattle.feed.specs.declared.Head.{Head}
 use Rattle.feed.specs.declared.Centre.{Centre}
-use Rattle.feed.specs.Tags.{spacing, socOf, indexOf}
-use Rattle.model.specs.Sampling.{samplingOf}
-use Rattle.feed.specs.Ring.{nextOf}
-use Rattle.feed.specs.Newest.{centreNumber, centreOf}
+use Rattle.sampling.specs.Tags.{spacing, socOf, indexOf}
+use Rattle.sampling.specs.Sampling.{samplingOf}
+use Rattle.feed.specs.Ring.{nextNumberOf}
+use Rattle.feed.specs.Inside.{centreNumber, centreAt}
 use Rattle.feed.proofs.Sound.{Sound, Served}
 
 -- where a number stands
@@ -32,7 +32,7 @@ begun h s e = go (ltb (h .held) 31) refl
         omega (arith, s .late f e)
 
 -- as many samples came before the next one as are held
-pub started : (h : Head) → Sound h → h .held ≤ nextOf h
+pub started : (h : Head) → Sound h → h .held ≤ nextNumberOf h
 started h s = go (h .soc) refl
   where
     go : (soc : ℕ) → h .soc ≡ soc → h .held ≤ soc * samplingOf (h .nominal) + h .index
@@ -48,11 +48,11 @@ module _ (h : Head) (s : Sound h) (full : 30 ≤ h .held) where
       go zero e = absurd (omega (arith, begun h s e))
       go (suc soc) e = omega arith
 
-  pub same-second : 15 ≤ h .index → _≡_ {A = Centre} (record { soc = h .soc; index = h .index - 15 }) (centreOf h)
+  pub same-second : 15 ≤ h .index → _≡_ {A = Centre} (record { soc = h .soc; index = h .index - 15 }) (centreAt h)
   same-second l = sym (stands (h .nominal) (h .soc) (h .index - 15) (centreNumber h) (omega (arith, s .index)) (omega arith))
 
   pub second-before : h .index < 15
-      → _≡_ {A = Centre} (record { soc = h .soc - 1; index = h .index + samplingOf (h .nominal) - 15 }) (centreOf h)
+      → _≡_ {A = Centre} (record { soc = h .soc - 1; index = h .index + samplingOf (h .nominal) - 15 }) (centreAt h)
   second-before l = sym (stands (h .nominal) (h .soc - 1) (h .index + samplingOf (h .nominal) - 15) (centreNumber h) (omega (arith, s .index)) (go (h .soc - 1) (omega (arith, later l))))
     where
       go : (before : ℕ) → h .soc ≡ before + 1 → centreNumber h ≡ before * samplingOf (h .nominal) + (h .index + samplingOf (h .nominal) - 15)

@@ -11,7 +11,8 @@ use lib.IntN.{ℤ, pos, negsuc}
 use mir.Syntax.{w16}
 use mir.Val.{SFits}
 use Rattle.model.specs.declared.filter.Sample.{Sample}
-use Rattle.feed.specs.Places.{be16, signed16, bits16, sampleOf, placeOf, samplesOf, withPlace}
+use Rattle.bits.specs.Bits.{be16, signedIn, signed16, bits16}
+use Rattle.feed.specs.Places.{sampleOf, placeOf, samplesOf, withPlace}
 
 -- the three numbers of a sample are signed 16-bit numbers
 pub record Fits16 (s : Sample) : Type 0 where
@@ -20,7 +21,7 @@ pub record Fits16 (s : Sample) : Type 0 where
   pub c-fits : SFits w16 (s .c)
 
 signed-back : (z : ℤ) → SFits w16 z → signed16 (bits16 z) ≡ z
-unfolding signed16 bits16
+unfolding signedIn bits16
 signed-back (pos n) f = rw (lt-ltb n (2 ^ 15) (f .sfits))
 signed-back (negsuc n) f =
     let m : ℕ = 2 ^ 16 - suc n in

@@ -6,13 +6,13 @@ use Prim.Native.Nat.{ℕ, _+_, _-_, _%_, _≤_}
 use native.Mathlib.Omega.{arith}
 use lib.ListN.{getD}
 use Rattle.model.specs.declared.filter.Sample.{Sample}
-use Rattle.model.specs.declared.sampling.Nominal.{Nominal}
+use Rattle.sampling.specs.declared.Nominal.{Nominal}
 use Rattle.model.specs.Filter.{windowed, noSample}
 use Rattle.model.specs.Report.{figuresAt, threePhase}
 use Rattle.model.proofs.Same.{figures-same}
 use Rattle.feed.specs.declared.Head.{Head}
-use Rattle.feed.specs.Ring.{nextOf}
-use Rattle.feed.specs.Newest.{centreNumber}
+use Rattle.feed.specs.Ring.{nextNumberOf}
+use Rattle.feed.specs.Inside.{centreNumber}
 use Rattle.feed.proofs.Sound.{Sound}
 use Rattle.feed.proofs.Standing.{started}
 
@@ -28,9 +28,9 @@ module _ (nominal : Nominal) (window : List Sample) where
       figures-same (windowed window m) (windowed window n) (m + 15) (n + 15) (omega arith) (omega arith) (omega arith) (λ j l. by-place m n j) threePhase nominal
 
   pub by-newest : (h : Head) → Sound h → 30 ≤ h .held
-      → figuresAt threePhase nominal (windowed window (h .index)) (h .index + 15) ≡ figuresAt threePhase nominal (windowed window (nextOf h - 30)) (centreNumber h)
+      → figuresAt threePhase nominal (windowed window (h .index)) (h .index + 15) ≡ figuresAt threePhase nominal (windowed window (nextNumberOf h - 30)) (centreNumber h)
   by-newest h s full =
       let l = started h s in
-      let e : h .index % 15 ≡ (nextOf h - 30) % 15 = omega arith in
-      let c : nextOf h - 30 + 15 ≡ centreNumber h = omega arith in
-      turned (h .index) (nextOf h - 30) e ∙ ap (figuresAt threePhase nominal (windowed window (nextOf h - 30))) c
+      let e : h .index % 15 ≡ (nextNumberOf h - 30) % 15 = omega arith in
+      let c : nextNumberOf h - 30 + 15 ≡ centreNumber h = omega arith in
+      turned (h .index) (nextNumberOf h - 30) e ∙ ap (figuresAt threePhase nominal (windowed window (nextNumberOf h - 30))) c

@@ -2,6 +2,7 @@
 -- Assumes nothing.
 use mathlib.Core.Path.{_≡_, refl, sym, ap, _∙_}
 use mathlib.Core.Bool.{Bool}
+use mathlib.Core.List.{List}
 use Prim.Native.Nat.{ℕ}
 use Rattle.model.specs.declared.filter.Sample.{Sample}
 use Rattle.feed.specs.declared.Head.{Head}
@@ -9,14 +10,9 @@ use Rattle.feed.specs.declared.Feed.{Feed}
 use Rattle.feed.specs.declared.Answer.{Answer}
 use Rattle.feed.specs.declared.Answer.the-variants.{Refused, Taken, Reported}
 use Rattle.feed.specs.declared.Pushed.{Pushed}
-use Rattle.model.specs.declared.sampling.Nominal.{Nominal}
-use Rattle.feed.specs.Tags.{servedNominal, nominalOf, servedRate, keptRate}
 use Rattle.feed.specs.Answers.{Said, refused, done, taken, takenWith, said}
+use Rattle.feed.specs.Places.{sampleOf}
 use Rattle.feed.specs.Ring.{Next, faulty, opened, Pushing}
-
--- two answers that equal the same
-one-answer : {A : Type 0} (v r q : A) → r ≡ v → q ≡ v → r ≡ q
-one-answer v r q e d = e ∙ sym d
 
 -- the answer of which this is said; no push answers "done"
 abbrev pub unsaid : Said → Answer
@@ -42,26 +38,17 @@ unsaid-said (Refused number) = refl
 unsaid-said Taken = refl
 unsaid-said (Reported r) = refl
 
-pub served-nominal-unique : (nominal : ℕ) (r q : Bool) → r ≡ servedNominal nominal → q ≡ servedNominal nominal → r ≡ q
-served-nominal-unique nominal = one-answer (servedNominal nominal)
-
-pub served-rate-unique : (nominal rate : ℕ) (r q : Bool) → r ≡ servedRate nominal rate → q ≡ servedRate nominal rate → r ≡ q
-served-rate-unique nominal rate = one-answer (servedRate nominal rate)
-
-pub nominal-of-unique : (nominal : ℕ) (r q : Nominal) → r ≡ nominalOf nominal → q ≡ nominalOf nominal → r ≡ q
-nominal-of-unique nominal = one-answer (nominalOf nominal)
-
-pub kept-rate-unique : (nominal rate r q : ℕ) → r ≡ keptRate nominal rate → q ≡ keptRate nominal rate → r ≡ q
-kept-rate-unique nominal rate = one-answer (keptRate nominal rate)
-
 pub head-is-faulty-unique : (h : Head) (r q : Bool) → r ≡ faulty h → q ≡ faulty h → r ≡ q
-head-is-faulty-unique h = one-answer (faulty h)
+head-is-faulty-unique h r q e d = e ∙ sym d
 
 pub feed-open-unique : (nominal rate soc : ℕ) (r q : Feed) → r ≡ opened nominal rate soc → q ≡ opened nominal rate soc → r ≡ q
-feed-open-unique nominal rate soc = one-answer (opened nominal rate soc)
+feed-open-unique nominal rate soc r q e d = e ∙ sym d
 
 pub feed-push-unique : (f : Feed) (s : Sample) (r q : Pushed) → Pushing f s r → Pushing f s q → r ≡ q
 feed-push-unique f s r q e d =
     let n : _≡_ {A = Next} (record { answer = said (r .answer); feed = r .feed }) (record { answer = said (q .answer); feed = q .feed }) = e ∙ sym d in
     let a : r .answer ≡ q .answer = sym (unsaid-said (r .answer)) ∙ ap (λ (x : Next). unsaid (x .answer)) n ∙ unsaid-said (q .answer) in
     λ i. record { feed = n i .feed; answer = a i }
+
+pub sample-of-unique : (bytes : List ℕ) (r q : Sample) → r ≡ sampleOf bytes → q ≡ sampleOf bytes → r ≡ q
+sample-of-unique bytes r q e d = e ∙ sym d

@@ -1,28 +1,16 @@
 -- Two bytes as a signed number, and its bits: the machine's reading of 16 bits is document 01's. Assumes nothing.
-use mathlib.Core.Path.{_≡_, refl, sym, ap}
-use mathlib.Core.Bool.{Bool, true, false, cond}
+use mathlib.Core.Path.{_≡_, refl}
+use mathlib.Core.Bool.{true, false}
 use Prim.Native.Nat.{ℕ, suc, _-_, _^_, _<_}
 use native.Mathlib.Omega.{arith}
-use lib.Dec.{T, ltb}
-use lib.IntN.{ℤ, pos, negsuc, natAbs, _-ℤ_}
+use lib.Dec.{T}
+use lib.IntN.{ℤ, pos, negsuc, natAbs}
 use lib.Signed.{ltZ, nonNeg}
 use mir.Syntax.{w16}
-use mir.Val.{SFits, Fits, toZ, ofZ, sel}
+use mir.Val.{SFits, Fits, toZ, ofZ}
 use mir.Facts.{toZ-pos}
-use borrow.Author.Tests.{lt-ltb, ltb-true}
-use Rattle.feed.specs.Places.{signed16, bits16}
-
--- 16 bits read as signed
-pub read-is : (n : ℕ) → n < 2 ^ 16 → toZ w16 n ≡ signed16 n
-unfolding signed16
-read-is n h = go (ltb n (2 ^ 15))
-  where
-    below : pos n -ℤ pos (2 ^ 16) ≡ negsuc (2 ^ 16 - suc n)
-    below = ap (λ (t : Bool). cond t (negsuc (2 ^ 16 - suc n)) (pos (n - 2 ^ 16))) (lt-ltb n (2 ^ 16) h)
-
-    go : (b : Bool) → sel b (pos n) (negsuc (2 ^ 16 - suc n)) ≡ cond b (pos n) (pos n -ℤ pos (2 ^ 16))
-    go true = refl
-    go false = sym below
+use borrow.Author.Tests.{ltb-true}
+use Rattle.bits.specs.Bits.{bits16}
 
 -- a signed number's bits
 pub bits-are : (z : ℤ) → ofZ w16 z ≡ bits16 z

@@ -1,4 +1,4 @@
--- What document 01 says of an answer: the number of a refusal, "done", or "taken", with a report or without one.
+-- Document 01, "The bank" and "The report": what is said of an answer. "Done" is what the bank's clearing, opening and closing answer.
 use Prim.Native.Nat.{ℕ}
 use lib.IntN.{ℤ}
 use lib.Ieee.{Float}
@@ -7,6 +7,7 @@ use Rattle.feed.specs.declared.Answer.{Answer}
 use Rattle.feed.specs.declared.Answer.the-variants.{Refused, Taken, Reported}
 use Rattle.feed.specs.declared.Report.{Report}
 
+-- the number of a refusal, "done", or "taken", with a report or without one
 pub data Said : Type 0 where
   refused : (number : ℕ) → Said
   done : Said
@@ -17,6 +18,7 @@ pub data Said : Type 0 where
 abbrev pub saidReport : Report → Said
 saidReport r = takenWith (r .soc) (r .frame) (r .re) (r .im) (r .d1) (r .d2) (r .mark) (r .«re_peak») (r .«im_peak») (r .deviation) (r .rocof)
 
+-- what a push's answer says, case by case
 abbrev pub said : Answer → Said
 said (Refused number) = refused number
 said Taken = taken

@@ -10,10 +10,10 @@ use Rattle.refusals.specs.Refusals.{Refusal, unlessRefused}
 use Rattle.feed.specs.declared.Head.{Head}
 use Rattle.feed.specs.declared.Feed.{Feed}
 use Rattle.feed.specs.declared.Pushed.{Pushed}
-use Rattle.feed.specs.Tags.{servedNominal, servedRate, keptRate}
-use Rattle.model.specs.Sampling.{samplingOf}
+use Rattle.sampling.specs.Tags.{servedNominal, servedRate, keptRate}
+use Rattle.sampling.specs.Sampling.{samplingOf}
 use Rattle.feed.specs.Answers.{Said, refused, said}
-use Rattle.feed.specs.History.{History, answered, lastSample}
+use Rattle.feed.specs.History.{History, answered, lastIndex, endOfTime}
 use Rattle.feed.specs.Places.{zeros, samplesOf, withPlace}
 
 -- ---- the numbers
@@ -30,18 +30,18 @@ uneven h = ltb (h .held) 31 && (not (eqb (h .place) (h .held)) || not (eqb (h .i
 unfoldable pub early : Head → Bool
 early h = eqb (h .held) 31 && (eqb (h .soc) 0 && ltb (h .index) 31)
 
--- the faults of the numbers: an unserved nominal or rate, index not below the sampling, held over 31, place over 30, fewer than 31 held where place
--- or index differs from held, 31 held with SOC 0 and index under 31
+-- faulty numbers: these three, index not below the sampling, held over 31, place over 30
 unfoldable pub faulty : Head → Bool
 faulty h = unserved h || not (ltb (h .index) (samplingOf (h .nominal))) || ltb 31 (h .held) || ltb 30 (h .place) || uneven h || early h
 
 -- the number of the next sample, from index 0 of SOC 0
-abbrev pub nextOf : Head → ℕ
-nextOf h = h .soc * samplingOf (h .nominal) + h .index
+abbrev pub nextNumberOf : Head → ℕ
+nextNumberOf h = h .soc * samplingOf (h .nominal) + h .index
 
 -- ---- opening
 
--- Opening sets the nominal, the kept rate, the SOC, index 0, none held, place 0, all places zero
+-- Opening sets the nominal, the kept rate, the SOC, index 0, none held, place 0, all places zero;
+-- an unserved nominal or rate makes the numbers faulty
 unfoldable pub opened : ℕ → ℕ → ℕ → Feed
 opened nominal rate soc = record {
   head = record { nominal = nominal; rate = keptRate nominal rate; held = 0; soc = soc; index = 0; place = 0 };
@@ -50,25 +50,22 @@ opened nominal rate soc = record {
 
 -- ---- pushing
 
--- whether the next sample is the last of its second
-abbrev pub turns : Head → Bool
-turns h = eqb (h .index + 1) (samplingOf (h .nominal))
-
--- A sample goes in the next place, which then moves on one, 30 to 0; the next sample stands one index on, or at the next second's index 0
+-- one more held, to 31; the next sample stands one index on, or at the next second's index 0; the next place moves on one, 30 to 0
 unfoldable pub nextHead : Head → Head
 nextHead h = record {
   nominal = h .nominal;
   rate = h .rate;
   held = cond (ltb (h .held) 31) (h .held + 1) (h .held);
-  soc = cond (turns h) (h .soc + 1) (h .soc);
-  index = cond (turns h) 0 (h .index + 1);
+  soc = cond (lastIndex (h .nominal) (h .index)) (h .soc + 1) (h .soc);
+  index = cond (lastIndex (h .nominal) (h .index)) 0 (h .index + 1);
   place = cond (eqb (h .place) 30) 0 (h .place + 1);
 }
 
+-- A sample goes in the next place, which then moves on one
 unfoldable pub stored : Feed → Sample → Feed
 stored f s = record { head = nextHead (f .head); places = withPlace (f .places) (f .head .place) s }
 
--- thirty-one samples, from the next place oldestFirst: the oldest first
+-- a list read round from a place: the samples of the places from the next one on, where all are filled, are then the oldest first
 abbrev pub oldestFirst : {S : Type 0} → ℕ → List S → List S
 oldestFirst place l = drop place l ++ take place l
 
@@ -76,30 +73,36 @@ oldestFirst place l = drop place l ++ take place l
 abbrev pub lastOf : {S : Type 0} → ℕ → List S → List S
 lastOf n l = drop (length l - n) l
 
--- the samples that a feed holds, as a history
+-- the samples that a feed holds, as a history: read round from the next place the newest is last, so those held are the last ones
 unfoldable pub historyOf : Feed → History
 historyOf f = record {
   nominal = f .head .nominal;
   rate = f .head .rate;
-  first = nextOf (f .head) - f .head .held;
+  first = nextNumberOf (f .head) - f .head .held;
   samples = lastOf (f .head .held) (oldestFirst (f .head .place) (samplesOf 31 (f .places)));
 }
 
--- faulty numbers are refused as damage, 3 (stray bytes are the bank's to find); then 8
+-- 3: slot damaged, as far as its numbers show it; stray bytes are the bank's to find
 abbrev pub faultyHead : Head → Refusal
 faultyHead h = record { number = 3; due = faulty h }
 
-abbrev pub endOfTime : Head → Refusal
-endOfTime h = lastSample (h .nominal) (h .soc) (h .index)
+-- 8: SOC 4294967295 and the next sample is the last index of the second
+abbrev pub endOfTimeOf : Head → Refusal
+endOfTimeOf h = endOfTime (h .nominal) (h .soc) (h .index)
 
--- what a push answers, and the next feed: the report is the one due of the samples that the feed then holds
+-- a feed by itself: 3, 8
+abbrev pub feedRefusals : Head → List Refusal
+feedRefusals h = faultyHead h ∷ endOfTimeOf h ∷ []
+
+-- an answer, and the next feed
 pub record Next : Type 0 where
   pub answer : Said
   pub feed : Feed
 
+-- one sample: refused, and then the feed stays; else it is stored, and answered by the history rule of the samples that the feed then holds
 unfoldable pub pushed : Feed → Sample → Next
 pushed f s =
-    unlessRefused (faultyHead (f .head) ∷ endOfTime (f .head) ∷ [])
+    unlessRefused (feedRefusals (f .head))
     (λ n. record { answer = refused n; feed = f })
     (record { answer = answered (historyOf (stored f s)); feed = stored f s })
 

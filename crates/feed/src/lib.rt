@@ -1,26 +1,26 @@
 // One feed as a value: its head, its thirty-one places, and what a sample does to it.
 mod places;
-mod tags;
 
 use model::Sample;
 use model::measure;
 use places::more_held;
 use places::next_place;
-use places::place_bytes;
+use places::put_sample;
 use places::sample_at;
-pub use tags::kept_rate;
-pub use tags::nominal_of;
-pub use tags::served_nominal;
-pub use tags::served_rate;
+pub use places::sample_of;
+use sampling::kept_rate;
+use sampling::nominal_of;
+use sampling::served_nominal;
+use sampling::served_rate;
 ghost use mathlib.Core.Path.{_≡_};
 ghost use mathlib.Core.Bool.{false};
 ghost use Prim.Native.Nat.{_≤_};
-ghost use Rattle.feed.specs.Tags.{spacing};
-ghost use Rattle.model.specs.Sampling.{samplingOf};
+ghost use Rattle.sampling.specs.Tags.{spacing};
+ghost use Rattle.sampling.specs.Sampling.{samplingOf};
 ghost use Rattle.feed.specs.Answers.{saidReport};
 ghost use Rattle.feed.specs.Places.{samplesOf};
-ghost use Rattle.feed.specs.Ring.{unserved, uneven, early, faulty, opened, endOfTime, nextHead, oldestFirst, Pushing};
-ghost use Rattle.feed.specs.Newest.{centreOf, dueWith, reportWith};
+ghost use Rattle.feed.specs.Ring.{unserved, uneven, early, faulty, opened, endOfTimeOf, nextHead, oldestFirst, Pushing};
+ghost use Rattle.feed.specs.Inside.{centreAt, dueWith, reportWith};
 
 // The numbers of a feed: what it is opened with, how many samples it holds, where the next one stands and where it goes.
 pub struct Head {
@@ -34,7 +34,7 @@ pub struct Head {
     pub place: u8,
 }
 
-// A feed: its head, and thirty-one places of three samples, each sample two bytes, big-endian.
+// A feed: its head, and thirty-one places of six bytes: a, b and c of a sample, two bytes each, big-endian.
 // The places stay bytes, so that a push reads them only where a report is due.
 pub struct Feed {
     pub head: Head,
@@ -107,7 +107,7 @@ impl Head {
         (self.held == 31) & ((self.soc == 0) & (self.index < 31))
     }
 
-    // Whether no feed has these numbers: the damage of a slot that its numbers show.
+    // Whether the numbers are faulty: the damage of a slot that its numbers show.
     pub fn is_faulty(self) -> bool
         ensures { λ r. ⌜ r ≡ faulty self ⌝ }
     {
@@ -120,9 +120,9 @@ impl Head {
     }
 
     // SOC 4294967295 and the next sample is the last index of the second.
-    fn is_at_end(self) -> bool
+    fn is_end_of_time(self) -> bool
         requires { ⌜ faulty self ≡ false ⌝ }
-        ensures { λ r. ⌜ r ≡ endOfTime self .due ⌝ }
+        ensures { λ r. ⌜ r ≡ endOfTimeOf self .due ⌝ }
     {
         (self.soc == 4294967295) & (self.index + 1 == self.sampling())
     }
@@ -130,7 +130,7 @@ impl Head {
     // The head after one sample more: one index on, or at the next second's index 0.
     fn next(self) -> Head
         requires { ⌜ faulty self ≡ false ⌝ }
-        requires { ⌜ endOfTime self .due ≡ false ⌝ }
+        requires { ⌜ endOfTimeOf self .due ≡ false ⌝ }
         ensures { λ r. ⌜ r ≡ nextHead self ⌝ }
     {
         let held = more_held(self.held);
@@ -168,7 +168,7 @@ impl Head {
     fn centre(self) -> Centre
         requires { ⌜ faulty self ≡ false ⌝ }
         requires { ⌜ 30 ≤ self .held ⌝ }
-        ensures { λ r. ⌜ r ≡ centreOf self ⌝ }
+        ensures { λ r. ⌜ r ≡ centreAt self ⌝ }
     {
         if self.index >= 15 {
             return Centre {
@@ -220,7 +220,8 @@ impl Head {
 }
 
 impl Feed {
-    // A feed as it is opened: the nominal, the kept rate, the SOC, index 0, none held, place 0, all places zero.
+    // A feed as it is opened: the nominal, the kept rate, the SOC, index 0, none held, place 0, all places zero. Of an unserved nominal or rate
+    // the numbers are faulty, and each push is refused 3.
     pub fn open(nominal: u8, rate: u8, soc: u32) -> Feed
         ensures { λ r. ⌜ r ≡ opened nominal rate soc ⌝ }
     {
@@ -238,7 +239,7 @@ impl Feed {
         }
     }
 
-    // Thirty-one samples from the next place oldestFirst: the oldest first.
+    // The samples of the thirty-one places from the next one round: where all are filled, the oldest first.
     fn window(self) -> [Sample; 31]
         requires { ⌜ self .head .place ≤ 30 ⌝ }
         ensures { λ r. ⌜ r ≡ oldestFirst (self .head .place) (samplesOf 31 (self .places)) ⌝ }
@@ -257,7 +258,7 @@ impl Feed {
 
     // One sample more. Refused 3, 8, and then nothing changes; else it goes in the next place, which then moves on one, and it is taken, with
     // the report if one is due.
-    pub fn push(mut self, s: Sample) -> Pushed
+    pub fn push(self, s: Sample) -> Pushed
         ensures { λ r. ⌜ Pushing self s r ⌝ }
     {
         let head = self.head;
@@ -267,30 +268,24 @@ impl Feed {
                 answer: Answer::Refused(3),
             };
         }
-        if head.is_at_end() {
+        if head.is_end_of_time() {
             return Pushed {
                 feed: self,
                 answer: Answer::Refused(8),
             };
         }
-        let bytes = place_bytes(s);
-        let at = 6 * head.place as usize;
-        self.places[at] = bytes[0];
-        self.places[at + 1] = bytes[1];
-        self.places[at + 2] = bytes[2];
-        self.places[at + 3] = bytes[3];
-        self.places[at + 4] = bytes[4];
-        self.places[at + 5] = bytes[5];
-        self.head = head.next();
+        let mut next = self;
+        put_sample(&mut next.places, head.place, s);
+        next.head = head.next();
         if head.is_due() {
-            let report = head.report(self.window());
+            let report = head.report(next.window());
             return Pushed {
-                feed: self,
+                feed: next,
                 answer: Answer::Reported(report),
             };
         }
         Pushed {
-            feed: self,
+            feed: next,
             answer: Answer::Taken,
         }
     }

@@ -1,11 +1,12 @@
--- `floorDiv z m` is the quotient towards minus infinity: m q ≤ z < m (q + 1). Assumes nothing.
-use mathlib.Core.Path.{_≡_, sym, _∙_, ap}
+-- `floorDiv z m` is the q with m·q ≤ z < m·(q + 1), and what `>>` gives. Assumes nothing.
+use mathlib.Core.Path.{_≡_, refl, sym, _∙_, ap}
 use Prim.Native.Nat.{ℕ, suc, _+_, _*_, _-_, _/_, _%_, _<_}
 use native.Mathlib.Nat.{div-add-mod', mod-lt}
 use native.Mathlib.Omega.{arith}
 use mathlib.Core.Bool.{Bool, cond}
 use borrow.Author.Tests.{lt-ltb}
 use lib.IntN.{ℤ, pos, negsuc, negℤ, _+ℤ_, _*ℤ_}
+use lib.Signed.{shrZ}
 use Rattle.ints.specs.Whole.{floorDiv}
 
 -- -(a + 1 + k) + k
@@ -19,3 +20,8 @@ floor-law (negsuc a) m h =
     let l : a % m < m = mod-lt a h in
     let e : m * suc (a / m) ≡ suc (a + (m - suc (a % m))) = omega (arith, div-add-mod' a m) in
     (m - suc (a % m), omega arith, sym (ap (λ (n : ℕ). negℤ (pos n) +ℤ pos (m - suc (a % m))) e ∙ up a (m - suc (a % m))))
+
+-- the library's shift
+pub shift-is-floor : (z : ℤ) (m : ℕ) → shrZ z m ≡ floorDiv z m
+shift-is-floor (pos a) m = refl
+shift-is-floor (negsuc a) m = refl

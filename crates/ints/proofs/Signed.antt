@@ -12,7 +12,9 @@ use lib.Ieee.{binary64, inFloat}
 use mir.Syntax.{Width}
 use mir.Val.{SFits, toZ, ofZ, hbits}
 use mir.Facts.{toZ-ofZ, and-yes}
-use Rattle.ints.proofs.Size.{size-add, size-minus, size-mul-le, size-neg, size-shr, size-fits, size-whole}
+use Rattle.ints.specs.Whole.{floorDiv}
+use Rattle.ints.proofs.Floor.{shift-is-floor}
+use Rattle.ints.proofs.Size.{size-add, size-minus, size-mul-le, size-neg, floor-smaller, size-fits, size-whole}
 
 -- ---- the operations that join two numbers
 pub data Op : Type 0 where
@@ -90,7 +92,7 @@ val (local n z b e h) = z
 val (lit z) = z
 val (both o x y) = apply o (val x) (val y)
 val (neg x) = negℤ (val x)
-val (shift x k) = shrZ (val x) (2 ^ k)
+val (shift x k) = floorDiv (val x) (2 ^ k)
 
 abbrev pub bound : {w : Width} → Exp w → ℕ
 bound (whole z b h) = b
@@ -124,7 +126,7 @@ within (local n z b e h) = h
 within (lit z) = le-refl (natAbs z)
 within (both o x y) = reaches o (val x) (val y) (within x) (within y)
 within (neg x) = subst (λ (n : ℕ). n ≤ bound x) (sym (size-neg (val x))) (within x)
-within (shift x k) = le-trans (size-shr (val x) (2 ^ k)) (within x)
+within (shift x k) = le-trans (floor-smaller (val x) (2 ^ k)) (within x)
 
 -- the tests of the two parts, and of what joins them
 module _ {w : Width} (o : Op) (x y : Exp w) (t : T (small (both o x y))) where
@@ -154,6 +156,10 @@ val-fits e t = size-fits (val e) (within e) (room e t)
 back : {w : Width} (e : Exp w) → T (small e) → (r : ℤ) → r ≡ val e → toZ w (ofZ w r) ≡ val e
 back {w} e t r p = ap (λ (z : ℤ). toZ w (ofZ w z)) p ∙ toZ-ofZ {w = w} {z = val e} (val-fits e t)
 
+-- `>>` of what is read is the floor
+shifted : (y z : ℤ) (k : ℕ) → y ≡ z → shrZ y (2 ^ k) ≡ floorDiv z (2 ^ k)
+shifted y z k e = ap (λ (x : ℤ). shrZ x (2 ^ k)) e ∙ shift-is-floor z (2 ^ k)
+
 -- the number that the machine reads is the whole number
 pub at : {w : Width} (e : Exp w) → T (small e) → toZ w (bitsOf e) ≡ val e
 at (whole z b h) t = back (whole z b h) t z refl
@@ -163,7 +169,7 @@ at {w} (local n z b e h) t = ap (toZ w) e ∙ back (local n z b e h) t z refl
 at (lit z) t = back (lit z) t z refl
 at {w} (both o x y) t = back (both o x y) t (apply o (toZ w (bitsOf x)) (toZ w (bitsOf y))) (ap₂ (apply o) (at x (left o x y t)) (at y (right o x y t)))
 at {w} (neg x) t = back (neg x) t (pos 0 -ℤ toZ w (bitsOf x)) (+ℤ-idl (negℤ (toZ w (bitsOf x))) ∙ ap negℤ (at x t))
-at {w} (shift x k) t = back (shift x k) t (shrZ (toZ w (bitsOf x)) (2 ^ k)) (ap (λ (z : ℤ). shrZ z (2 ^ k)) (at x t))
+at {w} (shift x k) t = back (shift x k) t (shrZ (toZ w (bitsOf x)) (2 ^ k)) (shifted (toZ w (bitsOf x)) (val x) k (at x t))
 
 raw-is : {w : Width} (e : Exp w) → T (small e) → raw e ≡ val e
 raw-is (whole z b h) t = refl
@@ -173,7 +179,7 @@ raw-is (local n z b e h) t = at (local n z b e h) t
 raw-is (lit z) t = refl
 raw-is (both o x y) t = ap₂ (apply o) (at x (left o x y t)) (at y (right o x y t))
 raw-is {w} (neg x) t = +ℤ-idl (negℤ (toZ w (bitsOf x))) ∙ ap negℤ (at x t)
-raw-is (shift x k) t = ap (λ (z : ℤ). shrZ z (2 ^ k)) (at x t)
+raw-is {w} (shift x k) t = shifted (toZ w (bitsOf x)) (val x) k (at x t)
 
 -- so the last operation does not overflow
 pub fits : {w : Width} (e : Exp w) → T (small e) → SFits w (raw e)

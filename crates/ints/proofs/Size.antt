@@ -6,10 +6,11 @@ use native.Mathlib.Nat.{lt-of-le-of-lt, le-trans, le-refl, mul-le-mul, div-le-se
 use native.Mathlib.Omega.{arith}
 use lib.Dec.{T, ltb, le→leb}
 use lib.IntN.{ℤ, pos, negsuc, negℤ, natAbs, subℕ, _+ℤ_, _-ℤ_, _*ℤ_}
-use lib.Signed.{mag, shrZ}
+use lib.Signed.{mag}
 use lib.Ieee.{binary64, inFloat}
 use mir.Syntax.{Width}
 use mir.Val.{SFits, hbits}
+use Rattle.ints.specs.Whole.{floorDiv}
 
 pub size-neg : (a : ℤ) → natAbs (negℤ a) ≡ natAbs a
 size-neg (pos zero) = refl
@@ -46,14 +47,14 @@ pub size-mul-le : (a b : ℤ) {m n : ℕ} → natAbs a ≤ m → natAbs b ≤ n 
 size-mul-le a b {m} {n} p q = subst (λ (k : ℕ). k ≤ m * n) (sym (size-mul a b)) (mul-le-mul p q)
 
 -- |floor(z / m)| ≤ |z| / m + 1
-pub size-floor : (z : ℤ) (m : ℕ) → natAbs (shrZ z m) ≤ mag z / m + 1
+pub size-floor : (z : ℤ) (m : ℕ) → natAbs (floorDiv z m) ≤ mag z / m + 1
 size-floor (pos a) m = omega arith
 size-floor (negsuc a) m = omega arith
 
 -- it is no larger than z
-pub size-shr : (z : ℤ) (m : ℕ) → natAbs (shrZ z m) ≤ natAbs z
-size-shr (pos a) m = div-le-self a m
-size-shr (negsuc a) m = omega (arith, div-le-self a m)
+pub floor-smaller : (z : ℤ) (m : ℕ) → natAbs (floorDiv z m) ≤ natAbs z
+floor-smaller (pos a) m = div-le-self a m
+floor-smaller (negsuc a) m = omega (arith, div-le-self a m)
 
 pub mag-le : (z : ℤ) → mag z ≤ natAbs z
 mag-le (pos a) = le-refl a

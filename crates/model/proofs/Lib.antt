@@ -8,9 +8,8 @@ pub mod Weights
 pub mod Summing
 pub mod Stepping
 pub mod Quadrant
-pub mod Silence
+pub mod NoPhase
 pub mod Turns
 pub mod Marks
-pub mod Samplings
 pub mod Windows
 pub mod Copying

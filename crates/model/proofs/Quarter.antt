@@ -11,12 +11,12 @@ use lib.Signed.{ltZ}
 use Rattle.ints.proofs.Size.{size-neg, size-mul}
 use Rattle.ints.proofs.Ring.{negℤ-*ℤ}
 use Rattle.ints.proofs.Cases.{both-true}
-use Rattle.model.specs.Angle.{angleOf, zeroTurn, quarterTurn, gains, arctan, above, below, step, steps, turned, scaled, silent, phaseAngle, phaseOf}
+use Rattle.model.specs.Angle.{angleOf, zeroTurn, quarterTurn, gains, arctan, above, below, step, steps, turned, scaled, noPhase, phaseAngle, phaseOf}
 use Rattle.model.specs.declared.angle.Angle.{Angle}
 use Rattle.model.specs.declared.angle.Phase.{Phase}
 use Rattle.model.specs.declared.angle.Turning.{Turning}
 use Rattle.model.specs.declared.filter.Phasor.{Phasor}
-use Rattle.model.proofs.Silence.{phase-some}
+use Rattle.model.proofs.NoPhase.{phase-some}
 
 -- (re, im) turned by a quarter turn
 abbrev pub quarterOn : Phasor → Phasor
@@ -85,20 +85,20 @@ none-small limit l z e =
     let h : natAbs z * 65536 ≡ 0 = sym (size-mul z (pos 65536)) ∙ ap natAbs e in
     lt-ltb (natAbs z) limit (omega arith)
 
-not-both : (limit : ℕ) → 1 ≤ limit → (p : Phasor) → silent limit p ≡ false → ((scaled p) .re ≡ pos 0) × ((scaled p) .im ≡ pos 0) → ⊥
-unfolding silent scaled
+not-both : (limit : ℕ) → 1 ≤ limit → (p : Phasor) → noPhase limit p ≡ false → ((scaled p) .re ≡ pos 0) × ((scaled p) .im ≡ pos 0) → ⊥
+unfolding noPhase scaled
 not-both limit l p e z = subst T (sym (both-true _ _ (none-small limit l (p .re) (z .0)) (none-small limit l (p .im) (z .1))) ∙ e) tt
 
-angle-quarter : (limit : ℕ) → 1 ≤ limit → (p : Phasor) → silent limit p ≡ false → phaseAngle (quarterOn p) ≡ gains (phaseAngle p) (2 ^ 30)
+angle-quarter : (limit : ℕ) → 1 ≤ limit → (p : Phasor) → noPhase limit p ≡ false → phaseAngle (quarterOn p) ≡ gains (phaseAngle p) (2 ^ 30)
 unfolding phaseAngle
 angle-quarter limit l p h =
     ap (λ (s : Phasor). (steps 24 (turned s)) .angle) (scaled-quarter p)
     ∙ ap (λ (v : Turning). (steps 24 v) .angle) (turned-quarter ((scaled p) .re) ((scaled p) .im) (not-both limit l p h))
     ∙ ap (λ (v : Turning). v .angle) (steps-later 24 (turned (scaled p)))
 
-silent-quarter : (limit : ℕ) (p : Phasor) → silent limit (quarterOn p) ≡ silent limit p
-unfolding silent
-silent-quarter limit p = ap (λ (n : ℕ). ltb n limit && ltb (natAbs (p .re)) limit) (size-neg (p .im)) ∙ and-comm (ltb (natAbs (p .im)) limit) (ltb (natAbs (p .re)) limit)
+no-phase-quarter : (limit : ℕ) (p : Phasor) → noPhase limit (quarterOn p) ≡ noPhase limit p
+unfolding noPhase
+no-phase-quarter limit p = ap (λ (n : ℕ). ltb n limit && ltb (natAbs (p .re)) limit) (size-neg (p .im)) ∙ and-comm (ltb (natAbs (p .im)) limit) (ltb (natAbs (p .re)) limit)
   where
     and-comm : (a b : Bool) → (a && b) ≡ (b && a)
     and-comm true true = refl
@@ -106,9 +106,9 @@ silent-quarter limit p = ap (λ (n : ℕ). ltb n limit && ltb (natAbs (p .re)) l
     and-comm false true = refl
     and-comm false false = refl
 
-none-is : (limit : ℕ) (p : Phasor) → (phaseOf limit p) .none ≡ silent limit p
+none-is : (limit : ℕ) (p : Phasor) → (phaseOf limit p) .none ≡ noPhase limit p
 unfolding phaseOf
-none-is limit p = pick (silent limit p)
+none-is limit p = pick (noPhase limit p)
   where
     pick : (t : Bool) → (cond {A = Phase} t (record { angle = zeroTurn; none = true }) (record { angle = phaseAngle p; none = false })) .none ≡ t
     pick true = refl
@@ -118,13 +118,13 @@ none-is limit p = pick (silent limit p)
 
 -- there is a phase after the turn exactly where there is one before
 pub quarter-none : (limit : ℕ) (p : Phasor) → (phaseOf limit (quarterOn p)) .none ≡ (phaseOf limit p) .none
-quarter-none limit p = none-is limit (quarterOn p) ∙ silent-quarter limit p ∙ sym (none-is limit p)
+quarter-none limit p = none-is limit (quarterOn p) ∙ no-phase-quarter limit p ∙ sym (none-is limit p)
 
 -- and there the angle gains a quarter turn
 pub quarter : (limit : ℕ) → 1 ≤ limit → (p : Phasor) → (phaseOf limit p) .none ≡ false
     → (phaseOf limit (quarterOn p)) .angle ≡ gains ((phaseOf limit p) .angle) (quarterTurn .parts)
 quarter limit l p h =
     let e = sym (none-is limit p) ∙ h in
-    ap (λ (f : Phase). f .angle) (phase-some limit (quarterOn p) (silent-quarter limit p ∙ e))
+    ap (λ (f : Phase). f .angle) (phase-some limit (quarterOn p) (no-phase-quarter limit p ∙ e))
     ∙ angle-quarter limit l p e
     ∙ sym (ap (λ (f : Phase). gains (f .angle) (2 ^ 30)) (phase-some limit p e))

@@ -7,11 +7,11 @@ use native.Mathlib.Omega.{arith}
 use lib.IntN.{ℤ, pos, negℤ, _+ℤ_, _*ℤ_}
 use lib.ListN.{getD}
 use Rattle.ints.proofs.Sum.{sum-ext}
-use Rattle.model.specs.Filter.{weight, three, term, weighted, positive, cosines, sines}
+use Rattle.model.specs.Filter.{weight, offset, phaseSum, term, weighted, positive, cosines, sines}
 use Rattle.model.specs.Report.{joined, differences, phaseAt, figuresAt}
 use Rattle.model.specs.Angle.{phaseOf}
 use Rattle.model.specs.declared.filter.Sample.{Sample}
-use Rattle.model.specs.declared.sampling.Nominal.{Nominal}
+use Rattle.sampling.specs.declared.Nominal.{Nominal}
 use Rattle.model.specs.declared.report.Scale.{Scale}
 
 -- what is the same mod 15 stays so, d later
@@ -26,9 +26,9 @@ turned-same m n i k d p q e = turn m ∙ ap (λ (j : ℕ). j % 15) p ∙ later-s
     turn j = omega arith
 
 -- one sample against three entries
-pub three-same : (table : List ℤ) (s : Sample) (m n : ℕ) → m % 15 ≡ n % 15 → three table s m ≡ three table s n
-unfolding three
-three-same table s m n e =
+pub phase-sum-same : (table : List ℤ) (s : Sample) (m n : ℕ) → m % 15 ≡ n % 15 → phaseSum table s m ≡ phaseSum table s n
+unfolding phaseSum
+phase-sum-same table s m n e =
     let f = later-same m n 10 e in
     let g = later-same m n 5 e in
     λ t. s .a *ℤ getD table (e t) (pos 0) +ℤ s .b *ℤ getD table (f t) (pos 0) +ℤ s .c *ℤ getD table (g t) (pos 0)
@@ -42,7 +42,7 @@ module _ (x y : ℕ → Sample) where
         let m = i + j - 14 in
         let n = k + j - 14 in
         let f : m % 15 ≡ n % 15 = turned-same m n i k (j + 1) (omega arith) (omega arith) e in
-        ap (λ (z : ℤ). pos (weight j) *ℤ z) (ap (λ (s : Sample). three table s m) (same j h) ∙ three-same table (y n) m n f)
+        ap (λ (z : ℤ). pos (weight (offset j)) *ℤ z) (ap (λ (s : Sample). phaseSum table s m) (same j h) ∙ phase-sum-same table (y n) m n f)
 
     pub weighted-same : (table : List ℤ) → weighted table x i ≡ weighted table y k
     unfolding weighted

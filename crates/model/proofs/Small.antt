@@ -11,7 +11,7 @@ use mir.Val.{SFits}
 use Rattle.ints.proofs.Size.{size-add, size-mul-le, size-neg}
 use Rattle.ints.proofs.Sum.{sum-size}
 use Rattle.model.specs.Bounds.{Tabled, Small}
-use Rattle.model.specs.Filter.{weight, three, term, weighted, positive, cosines, sines, entry}
+use Rattle.model.specs.Filter.{weight, offset, phaseSum, term, weighted, positive, cosines, sines, entryAt}
 use Rattle.model.specs.declared.filter.Sample.{Sample}
 use Rattle.model.proofs.Tables.{cosines-tabled, sines-tabled}
 use Rattle.model.proofs.Weights.{weights, weights-all}
@@ -23,25 +23,25 @@ pub record Words (s : Sample) : Type 0 where
   pub c-fits : SFits w16 (s .c)
 
 module _ (table : List ℤ) (h : Tabled table) where
-  product-size : (z : ℤ) → SFits w16 z → (n : ℕ) → natAbs (z *ℤ entry table n) ≤ 536870912
-  product-size z f n = size-mul-le z (entry table n) (natAbs-le z (f .sfits)) (h .small (n % 15))
+  product-size : (z : ℤ) → SFits w16 z → (n : ℕ) → natAbs (z *ℤ entryAt table n) ≤ 536870912
+  product-size z f n = size-mul-le z (entryAt table n) (natAbs-le z (f .sfits)) (h .small (n % 15))
 
-  three-size : (s : Sample) → Words s → (n : ℕ) → natAbs (three table s n) ≤ 1610612736
-  unfolding three
-  three-size s w n =
-      let a = s .a *ℤ entry table n in
-      let b = s .b *ℤ entry table (n + 10) in
-      let c = s .c *ℤ entry table (n + 5) in
+  phase-sum-size : (s : Sample) → Words s → (n : ℕ) → natAbs (phaseSum table s n) ≤ 1610612736
+  unfolding phaseSum
+  phase-sum-size s w n =
+      let a = s .a *ℤ entryAt table n in
+      let b = s .b *ℤ entryAt table (n + 10) in
+      let c = s .c *ℤ entryAt table (n + 5) in
       omega (arith, size-add (a +ℤ b) c, size-add a b, product-size (s .a) (w .a-fits) n, product-size (s .b) (w .b-fits) (n + 10), product-size (s .c) (w .c-fits) (n + 5))
 
   weighted-size : (x : ℕ → Sample) (i : ℕ) → ((j : ℕ) → j < 29 → Words (x (i + j - 14))) → natAbs (weighted table x i) ≤ 362387865600
   unfolding weighted term weights
   weighted-size x i w = omega (arith, weights-all, sum-size 29 (term table x i) (λ (j : ℕ). weights j * 1610612736) (λ j l. grown j (one j l)))
     where
-      one : (j : ℕ) → j < 29 → natAbs (pos (weight j) *ℤ three table (x (i + j - 14)) (i + j - 14)) ≤ weight j * 1610612736
-      one j l = size-mul-le (pos (weight j)) (three table (x (i + j - 14)) (i + j - 14)) (le-refl (weight j)) (three-size (x (i + j - 14)) (w j l) (i + j - 14))
+      one : (j : ℕ) → j < 29 → natAbs (pos (weight (offset j)) *ℤ phaseSum table (x (i + j - 14)) (i + j - 14)) ≤ weight (offset j) * 1610612736
+      one j l = size-mul-le (pos (weight (offset j))) (phaseSum table (x (i + j - 14)) (i + j - 14)) (le-refl (weight (offset j))) (phase-sum-size (x (i + j - 14)) (w j l) (i + j - 14))
 
-      grown : (j : ℕ) {k : ℕ} → k ≤ weight j * 1610612736 → weights j * 1610612736 + k ≤ (weights j + weight j) * 1610612736
+      grown : (j : ℕ) {k : ℕ} → k ≤ weight (offset j) * 1610612736 → weights j * 1610612736 + k ≤ (weights j + weight (offset j)) * 1610612736
       grown j p = omega arith
 
 pub positive-small : (x : ℕ → Sample) (i : ℕ) → ((j : ℕ) → j < 29 → Words (x (i + j - 14))) → Small (positive x i)

@@ -14,7 +14,7 @@ use mir.Val.{SFits, toZ, ofZ}
 use mir.Facts.{toZ-ofZ}
 use Rattle.ints.specs.Whole.{floorDiv}
 use Rattle.ints.proofs.Size.{size-floor, size-add, size-minus, mag-le, div-mono}
-use Rattle.model.specs.Angle.{angleOf, step, steps, above, below}
+use Rattle.model.specs.Angle.{step, steps, above, below}
 use Rattle.model.specs.Bounds.{cap, Sized}
 use Rattle.model.specs.declared.angle.Turning.{Turning}
 
@@ -26,7 +26,7 @@ module _ (i : ℕ) (v : Turning) where
       (record {
         re = cond t ((above i v) .re) (cond u ((below i v) .re) (v .re));
         im = cond t ((above i v) .im) (cond u ((below i v) .im) (v .im));
-        angle = angleOf (cond t ((above i v) .angle .parts) (cond u ((below i v) .angle .parts) (v .angle .parts)));
+        angle = cond t ((above i v) .angle) (cond u ((below i v) .angle) (v .angle));
       })
       (step i v)
   unfolding step
@@ -36,7 +36,7 @@ module _ (i : ℕ) (v : Turning) where
           (record {
             re = cond t ((above i v) .re) (cond u ((below i v) .re) (v .re));
             im = cond t ((above i v) .im) (cond u ((below i v) .im) (v .im));
-            angle = angleOf (cond t ((above i v) .angle .parts) (cond u ((below i v) .angle .parts) (v .angle .parts)));
+            angle = cond t ((above i v) .angle) (cond u ((below i v) .angle) (v .angle));
           })
           (cond t (above i v) (cond u (below i v) v))
       pick true u = refl

@@ -12,9 +12,9 @@ use mir.Val.{SFits, toZ, ofZ}
 use Rattle.ints.specs.Whole.{sum}
 use Rattle.ints.proofs.Size.{size-add}
 use Rattle.ints.proofs.Signed.{Exp, local, whole, _⊕_, at, fits, sized}
-use Rattle.model.specs.Filter.{weight, three, term, weighted, windowed, noSample}
+use Rattle.model.specs.Filter.{weight, offset, phaseSum, term, weighted, windowed, noSample}
 use Rattle.model.specs.declared.filter.Sample.{Sample}
-use Rattle.model.proofs.Same.{three-same}
+use Rattle.model.proofs.Same.{phase-sum-same}
 use Rattle.model.proofs.Weights.{weights, weights-all, weights-more, weights-within, weight-within, sum-more}
 use Rattle.model.proofs.Windows.{term-at}
 
@@ -37,7 +37,7 @@ module _ (table : List ℤ) (samples : List Sample) (n : ℕ) where
 
   -- it does where x is the term of the sample at place j, which meets entry m
   module _ (held j m : ℕ) (x : ℤ) (h : Holds held j) (inside : j < 29) (e : m ≡ (n + j) % 15)
-      (x-is : x ≡ pos (weight j) *ℤ three table (getD samples j noSample) m) (x-small : natAbs x ≤ weight j * 1610612736) where
+      (x-is : x ≡ pos (weight (offset j)) *ℤ phaseSum table (getD samples j noSample) m) (x-small : natAbs x ≤ weight (offset j) * 1610612736) where
     abbrev before : Exp w64
     before = local held (sum j f) 700616540160 (h .is) (omega (arith, h .small, weights-within j))
 
@@ -47,11 +47,11 @@ module _ (table : List ℤ) (samples : List Sample) (n : ℕ) where
     term-is : x ≡ f j
     term-is =
         let g : m % 15 ≡ (n + j) % 15 = omega arith in
-        x-is ∙ ap (λ (z : ℤ). pos (weight j) *ℤ z) (three-same table (getD samples j noSample) m (n + j) g) ∙ sym (term-at table samples n j)
+        x-is ∙ ap (λ (z : ℤ). pos (weight (offset j)) *ℤ z) (phase-sum-same table (getD samples j noSample) m (n + j) g) ∙ sym (term-at table samples n j)
 
     grown : natAbs (sum j f +ℤ f j) ≤ weights (j + 1) * 1610612736
     grown =
-        let g : natAbs (f j) ≤ weight j * 1610612736 = subst (λ (z : ℤ). natAbs z ≤ weight j * 1610612736) term-is x-small in
+        let g : natAbs (f j) ≤ weight (offset j) * 1610612736 = subst (λ (z : ℤ). natAbs z ≤ weight (offset j) * 1610612736) term-is x-small in
         omega (arith, size-add (sum j f) (f j), h .small, weights-more j)
 
     pub one-more : More held j x

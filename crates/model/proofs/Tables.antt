@@ -7,14 +7,13 @@ use Prim.Native.Nat.{ℕ, zero, suc, _+_, _-_, _%_, _≤_, _<_, zero-le}
 use native.Mathlib.Nat.{mod-lt}
 use native.Mathlib.Omega.{arith}
 use lib.Dec.{T, leb, leb→le, lit<}
-use lib.IntN.{ℤ, pos, negℤ, natAbs, _+ℤ_, _-ℤ_, _*ℤ_, -ℤ-+ℤ-cancel, +ℤ-idl, *ℤ-zero}
+use lib.IntN.{ℤ, pos, negℤ, natAbs, _+ℤ_, _-ℤ_, -ℤ-+ℤ-cancel, +ℤ-idl}
 use lib.ListN.{getD}
 use mir.Facts.{and-yes}
 use Rattle.ints.specs.Whole.{sum}
 use Rattle.ints.proofs.Every.{every, each, none, none-is}
-use Rattle.ints.proofs.Ring.{mul-add}
 use Rattle.model.specs.Bounds.{Tabled}
-use Rattle.model.specs.Filter.{cosines, sines, entry, three}
+use Rattle.model.specs.Filter.{cosines, sines, entryAt}
 use Rattle.model.proofs.Same.{later-same}
 
 -- ---- no entry is larger than 16384
@@ -36,24 +35,24 @@ sines-tabled = record { small = entry-small sines tt }
 -- ---- the mirror rule: entry n is entry 15 - n, or minus it
 module _ (sign : ℤ → ℤ) (table : List ℤ) where
   abbrev apart : ℕ → ℤ
-  apart n = entry table n -ℤ sign (entry table (15 - n))
+  apart n = entryAt table n -ℤ sign (entryAt table (15 - n))
 
-  mirrored : T (every 15 (λ n. none (apart n))) → (n : ℕ) → n < 15 → entry table n ≡ sign (entry table (15 - n))
+  mirrored : T (every 15 (λ n. none (apart n))) → (n : ℕ) → n < 15 → entryAt table n ≡ sign (entryAt table (15 - n))
   mirrored t n h =
-      let other = sign (entry table (15 - n)) in
-      sym (-ℤ-+ℤ-cancel (entry table n) other) ∙ ap (λ (z : ℤ). z +ℤ other) (none-is (apart n) (each 15 (λ k. none (apart k)) t n h)) ∙ +ℤ-idl other
+      let other = sign (entryAt table (15 - n)) in
+      sym (-ℤ-+ℤ-cancel (entryAt table n) other) ∙ ap (λ (z : ℤ). z +ℤ other) (none-is (apart n) (each 15 (λ k. none (apart k)) t n h)) ∙ +ℤ-idl other
 
 -- cos n = cos(15 - n)
-pub cos-mirror : (n : ℕ) → n < 15 → entry cosines n ≡ entry cosines (15 - n)
+pub cos-mirror : (n : ℕ) → n < 15 → entryAt cosines n ≡ entryAt cosines (15 - n)
 cos-mirror = mirrored (λ z. z) cosines tt
 
 -- sin n = -sin(15 - n)
-pub sin-mirror : (n : ℕ) → n < 15 → entry sines n ≡ negℤ (entry sines (15 - n))
+pub sin-mirror : (n : ℕ) → n < 15 → entryAt sines n ≡ negℤ (entryAt sines (15 - n))
 sin-mirror = mirrored negℤ sines tt
 
 -- ---- 120 degrees is five entries
 abbrev trio : List ℤ → ℕ → ℤ
-trio table n = entry table n +ℤ entry table (n + 10) +ℤ entry table (n + 5)
+trio table n = entryAt table n +ℤ entryAt table (n + 10) +ℤ entryAt table (n + 5)
 
 five-apart : (table : List ℤ) → T (every 15 (λ n. none (trio table n))) → (n : ℕ) → trio table n ≡ pos 0
 five-apart table t n = turned ∙ none-is (trio table (n % 15)) (each 15 (λ k. none (trio table k)) t (n % 15) (mod-lt n (lit< tt)))
@@ -66,32 +65,17 @@ five-apart table t n = turned ∙ none-is (trio table (n % 15)) (each 15 (λ k. 
         λ i. getD table (e i) (pos 0) +ℤ getD table (f i) (pos 0) +ℤ getD table (g i) (pos 0)
 
 -- three entries five apart add to 0
-pub cos-five-apart : (n : ℕ) → entry cosines n +ℤ entry cosines (n + 10) +ℤ entry cosines (n + 5) ≡ pos 0
+pub cos-five-apart : (n : ℕ) → entryAt cosines n +ℤ entryAt cosines (n + 10) +ℤ entryAt cosines (n + 5) ≡ pos 0
 cos-five-apart = five-apart cosines tt
 
-pub sin-five-apart : (n : ℕ) → entry sines n +ℤ entry sines (n + 10) +ℤ entry sines (n + 5) ≡ pos 0
+pub sin-five-apart : (n : ℕ) → entryAt sines n +ℤ entryAt sines (n + 10) +ℤ entryAt sines (n + 5) ≡ pos 0
 sin-five-apart = five-apart sines tt
 
--- so what the three phases share is not seen
-shared : (table : List ℤ) → ((n : ℕ) → trio table n ≡ pos 0) → (z : ℤ) (n : ℕ) → three table (record { a = z; b = z; c = z }) n ≡ pos 0
-unfolding three
-shared table h z n =
-    let x = entry table n in
-    let y = entry table (n + 10) in
-    let w = entry table (n + 5) in
-    ap (λ (v : ℤ). v +ℤ z *ℤ w) (sym (mul-add z x y)) ∙ sym (mul-add z (x +ℤ y) w) ∙ ap (λ (v : ℤ). z *ℤ v) (h n) ∙ *ℤ-zero z
-
-pub cos-shared : (z : ℤ) (n : ℕ) → three cosines (record { a = z; b = z; c = z }) n ≡ pos 0
-cos-shared = shared cosines cos-five-apart
-
-pub sin-shared : (z : ℤ) (n : ℕ) → three sines (record { a = z; b = z; c = z }) n ≡ pos 0
-sin-shared = shared sines sin-five-apart
-
 -- ---- all 15 entries add to 0
-pub cos-total : sum 15 (entry cosines) ≡ pos 0
+pub cos-total : sum 15 (entryAt cosines) ≡ pos 0
 unfolding sum
 cos-total = refl
 
-pub sin-total : sum 15 (entry sines) ≡ pos 0
+pub sin-total : sum 15 (entryAt sines) ≡ pos 0
 unfolding sum
 sin-total = refl

@@ -1,16 +1,9 @@
 -- Differences of angles modulo 2^32: what wrapping subtractions give is what the definitions name, since each is a turn more than the plain
--- difference, or none. And 32 bits read as a signed number. Assumes nothing.
-use mathlib.Core.Path.{_≡_, refl, sym, ap, _∙_}
-use mathlib.Core.Bool.{Bool, true, false, cond}
-use Prim.Native.Nat.{ℕ, suc, _+_, _-_, _*_, _/_, _%_, _^_, _<_, _≤_}
+-- difference, or none. Assumes nothing.
+use mathlib.Core.Path.{_≡_, sym, ap, _∙_}
+use Prim.Native.Nat.{ℕ, _+_, _-_, _*_, _/_, _%_, _^_, _<_, _≤_}
 use native.Mathlib.Omega.{arith}
-use borrow.Author.Tests.{lt-ltb}
-use lib.Dec.{ltb}
 use lib.Arith.{digits-mod}
-use lib.IntN.{ℤ, pos, negsuc, _-ℤ_}
-use mir.Syntax.{w32}
-use mir.Val.{toZ, sel}
-use Rattle.model.specs.Report.{signed32}
 
 -- r - p, modulo 2^32
 abbrev pub less : ℕ → ℕ → ℕ
@@ -45,12 +38,3 @@ less-twice p q r hp hq hr =
   where
     below : (n : ℕ) → n % 2 ^ 32 < 2 ^ 32
     below n = omega arith
-
-either : (b : Bool) (x y z : ℤ) → y ≡ z → sel b x y ≡ cond b x z
-either true x y z e = refl
-either false x y z e = e
-
--- what the machine reads of 32 bits
-pub reads-32 : (n : ℕ) → n < 2 ^ 32 → toZ w32 n ≡ signed32 n
-unfolding signed32
-reads-32 n h = either (ltb n (2 ^ 31)) (pos n) (negsuc (2 ^ 32 - suc n)) (pos n -ℤ pos (2 ^ 32)) (simp (lt-ltb n (2 ^ 32) h))

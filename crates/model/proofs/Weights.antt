@@ -8,36 +8,36 @@ use native.Mathlib.Decide.{decLt}
 use borrow.Author.Tests.{lt-ltb, le-ltb}
 use lib.IntN.{ℤ, pos, negsuc, natAbs, _+ℤ_}
 use Rattle.ints.specs.Whole.{sum}
-use Rattle.model.specs.Filter.{weight}
+use Rattle.model.specs.Filter.{weight, offset}
 
 -- up to the centre the weight is one more than the place, after it one less at each
-pub weight-before : (j : ℕ) → j < 15 → weight j ≡ j + 1
-unfolding weight
+pub weight-before : (j : ℕ) → j < 15 → weight (offset j) ≡ j + 1
+unfolding weight offset
 weight-before j h =
     elim (decLt j 14) [
       | yes l ↦ ap (λ (t : Bool). 15 - natAbs (cond t (negsuc (14 - suc j)) (pos (j - 14)))) (lt-ltb j 14 l) ∙ omega arith
       | no l ↦ ap (λ (t : Bool). 15 - natAbs (cond t (negsuc (14 - suc j)) (pos (j - 14)))) (le-ltb j 14 (omega arith)) ∙ omega arith
     ]
 
-pub weight-after : (j : ℕ) → 15 ≤ j → weight j ≡ 29 - j
-unfolding weight
+pub weight-after : (j : ℕ) → 15 ≤ j → weight (offset j) ≡ 29 - j
+unfolding weight offset
 weight-after j h = ap (λ (t : Bool). 15 - natAbs (cond t (negsuc (14 - suc j)) (pos (j - 14)))) (le-ltb j 14 (omega arith)) ∙ omega arith
 
-pub weight-within : (j : ℕ) → weight j ≤ 15
-unfolding weight
+pub weight-within : (j : ℕ) → weight (offset j) ≤ 15
+unfolding weight offset
 weight-within j = omega arith
 
 -- the weights of the first j terms together
 unfoldable pub weights : ℕ → ℕ
 weights zero = 0
-weights (suc j) = weights j + weight j
+weights (suc j) = weights j + weight (offset j)
 
 -- the weights add to 225
 pub weights-all : weights 29 ≡ 225
-unfolding weights weight
+unfolding weights weight offset
 weights-all = refl
 
-pub weights-more : (j : ℕ) → weights (j + 1) ≡ weights j + weight j
+pub weights-more : (j : ℕ) → weights (j + 1) ≡ weights j + weight (offset j)
 unfolding weights
 weights-more j = ap weights (add-one j)
 

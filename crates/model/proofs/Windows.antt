@@ -7,11 +7,11 @@ use native.Mathlib.Omega.{arith}
 use lib.IntN.{ℤ, pos, _*ℤ_}
 use lib.ListN.{getD, take, drop}
 use lib.Seq.{getD-take, getD-drop}
-use Rattle.model.specs.Filter.{weight, three, term, weighted, positive, windowed, noSample}
+use Rattle.model.specs.Filter.{weight, offset, phaseSum, term, weighted, positive, windowed, noSample}
 use Rattle.model.specs.Report.{figuresAt}
 use Rattle.model.specs.declared.filter.Sample.{Sample}
 use Rattle.model.specs.declared.report.Scale.{Scale}
-use Rattle.model.specs.declared.sampling.Nominal.{Nominal}
+use Rattle.sampling.specs.declared.Nominal.{Nominal}
 use Rattle.model.proofs.Same.{weighted-same, positive-same, figures-same}
 
 -- d before the centre, j on: the sample at place j
@@ -22,26 +22,26 @@ at-place window n d j =
 
 -- one term of the sum over 29 samples, the first of which has index n
 pub term-at : (table : List ℤ) (samples : List Sample) (n j : ℕ)
-    → term table (windowed samples n) (n + 14) j ≡ pos (weight j) *ℤ three table (getD samples j noSample) (n + j)
+    → term table (windowed samples n) (n + 14) j ≡ pos (weight (offset j)) *ℤ phaseSum table (getD samples j noSample) (n + j)
 unfolding term
 term-at table samples n j =
     let e : n + 14 + j - 14 ≡ n + j = omega arith in
-    λ t. pos (weight j) *ℤ three table (at-place samples n 14 j t) (e t)
+    λ t. pos (weight (offset j)) *ℤ phaseSum table (at-place samples n 14 j t) (e t)
 
 -- ---- 29 samples of a window
-abbrev part : List Sample → ℕ → List Sample
-part window from = take 29 (drop from window)
+abbrev samplesFrom : List Sample → ℕ → List Sample
+samplesFrom window from = take 29 (drop from window)
 
-pub part-positive : (window : List Sample) (n from : ℕ)
-    → positive (windowed (part window from) (n + from)) (n + from + 14) ≡ positive (windowed window n) (n + from + 14)
-part-positive window n from =
+pub samples-from-positive : (window : List Sample) (n from : ℕ)
+    → positive (windowed (samplesFrom window from) (n + from)) (n + from + 14) ≡ positive (windowed window n) (n + from + 14)
+samples-from-positive window n from =
     let i = n + from + 14 in
-    positive-same (windowed (part window from) (n + from)) (windowed window n) i i (omega arith) (omega arith) refl same
+    positive-same (windowed (samplesFrom window from) (n + from)) (windowed window n) i i (omega arith) (omega arith) refl same
   where
-    same : (j : ℕ) → j < 29 → windowed (part window from) (n + from) (n + from + 14 + j - 14) ≡ windowed window n (n + from + 14 + j - 14)
+    same : (j : ℕ) → j < 29 → windowed (samplesFrom window from) (n + from) (n + from + 14 + j - 14) ≡ windowed window n (n + from + 14 + j - 14)
     same j h =
         let e : n + from + 14 + j - 14 - n ≡ from + j = omega arith in
-        at-place (part window from) (n + from) 14 j
+        at-place (samplesFrom window from) (n + from) 14 j
         ∙ getD-take 29 (drop from window) j noSample h
         ∙ getD-drop from window j noSample
         ∙ ap (λ (k : ℕ). getD window k noSample) (sym e)

@@ -1,5 +1,4 @@
 -- Document 01, "The angle".
-use mathlib.Core.Path.{_≡_}
 use mathlib.Core.Bool.{Bool, true, false, cond, _&&_}
 use mathlib.Core.List.{List, [], _∷_}
 use Prim.Native.Nat.{ℕ, zero, suc, _+_, _-_, _*_, _%_, _^_}
@@ -16,10 +15,6 @@ use Rattle.model.specs.declared.filter.Phasor.{Phasor}
 -- An angle is a whole number of 2^32nds of a turn
 abbrev pub angleOf : ℕ → Angle
 angleOf parts = record { parts = parts }
-
--- what the maker of angles answers
-abbrev pub Making : ℕ → Angle → Type 0
-Making parts r = r ≡ angleOf parts
 
 -- zero, the quarter turn and the half turn
 abbrev pub zeroTurn : Angle
@@ -44,6 +39,7 @@ arctans =
     536870912 ∷ 316933406 ∷ 167458907 ∷ 85004756 ∷ 42667331 ∷ 21354465 ∷ 10679838 ∷ 5340245 ∷ 2670163 ∷ 1335087 ∷ 667544 ∷ 333772
     ∷ 166886 ∷ 83443 ∷ 41722 ∷ 20861 ∷ 10430 ∷ 5215 ∷ 2608 ∷ 1304 ∷ 652 ∷ 326 ∷ 163 ∷ 81 ∷ []
 
+-- A(i)
 unfoldable pub arctan : ℕ → ℕ
 arctan i = getD arctans i 0
 
@@ -52,7 +48,7 @@ unfoldable pub scaled : Phasor → Phasor
 scaled p = record { re = p .re *ℤ pos 65536; im = p .im *ℤ pos 65536 }
 
 -- turned into the first quadrant: re>0, im≥0: as is, base 0; re≤0, im>0: (im, -re), base 2^30; re<0, im≤0: (-re, -im), base 2^31;
--- re≥0, im<0: (-im, re), base 3·2^30
+-- re≥0, im<0: (-im, re), base 3·2^30; (0, 0) has no phase and is never turned
 unfoldable pub turned : Phasor → Turning
 turned p =
     cond (ltZ (pos 0) (p .re) && leZ (pos 0) (p .im)) (record { re = p .re; im = p .im; angle = zeroTurn })
@@ -77,9 +73,9 @@ unfoldable pub steps : ℕ → Turning → Turning
 steps zero v = v
 steps (suc left) v = steps left (step (23 - left) v)
 
--- no phase is where both |re| and |im| are below a limit, which document 01 sets to 1: (re, im) = (0, 0)
-unfoldable pub silent : ℕ → Phasor → Bool
-silent limit p = ltb (natAbs (p .re)) limit && ltb (natAbs (p .im)) limit
+-- there is no phase where |re| and |im| are both below the limit; of limit 1: (re, im) = (0, 0)
+unfoldable pub noPhase : ℕ → Phasor → Bool
+noPhase limit p = ltb (natAbs (p .re)) limit && ltb (natAbs (p .im)) limit
 
 -- the angle where there is a phase
 unfoldable pub phaseAngle : Phasor → Angle
@@ -87,4 +83,4 @@ phaseAngle p = (steps 24 (turned (scaled p))) .angle
 
 -- For no phase the angle is 0
 unfoldable pub phaseOf : ℕ → Phasor → Phase
-phaseOf limit p = cond (silent limit p) (record { angle = zeroTurn; none = true }) (record { angle = phaseAngle p; none = false })
+phaseOf limit p = cond (noPhase limit p) (record { angle = zeroTurn; none = true }) (record { angle = phaseAngle p; none = false })

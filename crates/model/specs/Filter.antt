@@ -7,9 +7,13 @@ use Rattle.ints.specs.Whole.{sum}
 use Rattle.model.specs.declared.filter.Sample.{Sample}
 use Rattle.model.specs.declared.filter.Phasor.{Phasor}
 
--- Weight of offset k, from -14 to 14, is 15 - |k|; here k = j - 14
-unfoldable pub weight : ℕ → ℕ
-weight j = 15 - natAbs (pos j -ℤ pos 14)
+-- Weight of offset k, from -14 to 14, is 15 - |k|
+unfoldable pub weight : ℤ → ℕ
+weight k = 15 - natAbs k
+
+-- the offset of term j, where the terms are numbered from 0 to 28
+unfoldable pub offset : ℕ → ℤ
+offset j = pos j -ℤ pos 14
 
 -- Tables, entry n = round(16384 × cos or sin of 2πn/15), for n from 0 to 7
 abbrev pub firstCosines : List ℤ
@@ -27,16 +31,16 @@ abbrev pub sines : List ℤ
 sines = firstSines ++ map negℤ (reverse (drop 1 firstSines))
 
 -- all table indices are taken mod 15
-abbrev pub entry : List ℤ → ℕ → ℤ
-entry table n = getD table (n % 15) (pos 0)
+abbrev pub entryAt : List ℤ → ℕ → ℤ
+entryAt table n = getD table (n % 15) (pos 0)
 
--- a·cos n + b·cos(n-5) + c·cos(n-10), or the same with sin: mod 15, n - 5 is n + (15 - 5)
-unfoldable pub three : List ℤ → Sample → ℕ → ℤ
-three table s n = s .a *ℤ entry table n +ℤ s .b *ℤ entry table (n + (15 - 5)) +ℤ s .c *ℤ entry table (n + (15 - 10))
+-- a·cos n + b·cos(n-5) + c·cos(n-10), or the same with sin; mod 15, n - 5 is n + (15 - 5)
+unfoldable pub phaseSum : List ℤ → Sample → ℕ → ℤ
+phaseSum table s n = s .a *ℤ entryAt table n +ℤ s .b *ℤ entryAt table (n + (15 - 5)) +ℤ s .c *ℤ entryAt table (n + (15 - 10))
 
--- weight × (..), where n = i + k; a centre is 14 or more
+-- term j, at offset k = j - 14: weight × (..), where n = i + k; a centre is 14 or more
 unfoldable pub term : List ℤ → (ℕ → Sample) → ℕ → ℕ → ℤ
-term table x i j = pos (weight j) *ℤ three table (x (i + j - 14)) (i + j - 14)
+term table x i j = pos (weight (offset j)) *ℤ phaseSum table (x (i + j - 14)) (i + j - 14)
 
 -- sum of weight × (..), for k from -14 to 14
 unfoldable pub weighted : List ℤ → (ℕ → Sample) → ℕ → ℤ
@@ -46,9 +50,10 @@ weighted table x i = sum 29 (term table x i)
 unfoldable pub positive : (ℕ → Sample) → ℕ → Phasor
 positive x i = record { re = weighted cosines x i; im = negℤ (weighted sines x i) }
 
+-- three zeros: what a list of samples gives beyond its end
 abbrev pub noSample : Sample
 noSample = record { a = pos 0; b = pos 0; c = pos 0 }
 
--- a window's samples under their indices, where the first one's index is `first`
+-- a window's samples under their indices, where the first one's index is `first`; no rule asks for an index outside the window
 abbrev pub windowed : List Sample → ℕ → ℕ → Sample
 windowed window first n = getD window (n - first) noSample

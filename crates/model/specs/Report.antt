@@ -3,39 +3,36 @@ use mathlib.Core.Path.{_≡_}
 use mathlib.Core.Bool.{cond, _||_}
 use mathlib.Core.List.{List}
 use Prim.Native.Nat.{ℕ, _+_, _-_, _*_, _/_, _%_, _^_}
-use lib.Dec.{ltb}
-use lib.IntN.{ℤ, pos, _-ℤ_, _*ℤ_}
+use lib.IntN.{ℤ, pos, _*ℤ_}
 use lib.Ieee.{Float, binary64, ofInt, div}
 use Rattle.model.specs.declared.angle.Angle.{Angle}
 use Rattle.model.specs.declared.angle.Phase.{Phase}
 use Rattle.model.specs.declared.filter.Phasor.{Phasor}
 use Rattle.model.specs.declared.filter.Sample.{Sample}
-use Rattle.model.specs.declared.sampling.Nominal.{Nominal}
+use Rattle.sampling.specs.declared.Nominal.{Nominal}
 use Rattle.model.specs.declared.report.Differences.{Differences}
 use Rattle.model.specs.declared.report.Figures.{Figures}
 use Rattle.model.specs.declared.report.Scale.{Scale}
-use Rattle.model.specs.Sampling.{sampling}
+use Rattle.bits.specs.Bits.{signed32}
+use Rattle.sampling.specs.Sampling.{sampling}
 use Rattle.model.specs.Filter.{positive, windowed}
 use Rattle.model.specs.Angle.{phaseOf}
 
--- d1 = r - p, modulo 2^32
-unfoldable pub minus : Angle → Angle → ℕ
-minus r p = (r .parts + (2 ^ 32 - p .parts)) % 2 ^ 32
+-- r - p, modulo 2^32
+abbrev pub difference : (p r : Angle) → ℕ
+difference p r = (r .parts + (2 ^ 32 - p .parts)) % 2 ^ 32
 
--- d2 = r - 2q + p, modulo 2^32
-unfoldable pub minusTwice : Angle → Angle → Angle → ℕ
-minusTwice p q r = (r .parts + 2 * (2 ^ 32 - q .parts) + p .parts) % 2 ^ 32
+-- r - 2q + p, modulo 2^32
+unfoldable pub secondDifference : (p q r : Angle) → ℕ
+secondDifference p q r = (r .parts + 2 * (2 ^ 32 - q .parts) + p .parts) % 2 ^ 32
 
--- each read as a signed 32-bit number
-unfoldable pub signed32 : ℕ → ℤ
-signed32 n = cond (ltb n (2 ^ 31)) (pos n) (pos n -ℤ pos (2 ^ 32))
-
--- If any of the three has no phase, d1 = d2 = 0 and the no-phase mark is 1; else it is 0
+-- d1 = r - p and d2 = r - 2q + p, each read as a signed 32-bit number. If any of the three has no phase, d1 = d2 = 0 and the no-phase mark is 1;
+-- else it is 0
 unfoldable pub differences : Phase → Phase → Phase → Differences
 differences p q r =
     cond (p .none || q .none || r .none)
     (record { d1 = pos 0; d2 = pos 0; mark = 1 })
-    (record { d1 = signed32 (minus (r .angle) (p .angle)); d2 = signed32 (minusTwice (p .angle) (q .angle) (r .angle)); mark = 0 })
+    (record { d1 = signed32 (difference (p .angle) (r .angle)); d2 = signed32 (secondDifference (p .angle) (q .angle) (r .angle)); mark = 0 })
 
 -- a whole number, made a float and divided once
 unfoldable pub over : ℤ → ℕ → Float
@@ -74,10 +71,6 @@ phaseAt scale x i = phaseOf (scale .limit) (positive x i)
 -- the figures at centre i, 15 or more: p, q, r are the phases at centres i-1, i, i+1
 unfoldable pub figuresAt : Scale → Nominal → (ℕ → Sample) → ℕ → Figures
 figuresAt scale nominal x i = joined scale nominal (positive x i) (differences (phaseAt scale x (i - 1)) (phaseAt scale x i) (phaseAt scale x (i + 1)))
-
--- what `centre_phase` answers of 29 samples, the first of which has this index: their centre is 14 after it
-abbrev pub Phasing : List Sample → ℕ → Phase → Type 0
-Phasing samples index r = r ≡ phaseAt threePhase (windowed samples index) (index + 14)
 
 -- what `measure` answers of 31 samples, the first of which has this index: their centre is 15 after it
 abbrev pub Measuring : List Sample → ℕ → Nominal → Figures → Type 0

@@ -6,7 +6,7 @@ ghost use Prim.Native.Nat.{_-_, _^_, _≤_, _<_};
 ghost use lib.IntN.{natAbs};
 ghost use lib.Dec.{ltb};
 ghost use Rattle.ints.specs.Whole.{floorDiv};
-ghost use Rattle.model.specs.Angle.{angleOf, gains, loses, arctan, arctans, step, steps, turned, scaled, silent, phaseOf, Making};
+ghost use Rattle.model.specs.Angle.{angleOf, gains, loses, arctan, arctans, step, steps, turned, scaled, noPhase, phaseAngle, phaseOf};
 ghost use Rattle.model.specs.Bounds.{Sized, Small, cap};
 
 // A whole number of 2^32nds of a turn, kept modulo 2^32.
@@ -15,15 +15,18 @@ pub struct Angle {
 }
 
 impl Angle {
-    pub const ZERO: Angle = Angle { parts: 0 };
+    // No turn.
+    const ZERO: Angle = Angle { parts: 0 };
 
-    pub const QUARTER: Angle = Angle { parts: 1073741824 };
+    // The quarter turn: 2^30.
+    const QUARTER: Angle = Angle { parts: 1073741824 };
 
-    pub const HALF: Angle = Angle { parts: 2147483648 };
+    // The half turn: 2^31.
+    const HALF: Angle = Angle { parts: 2147483648 };
 
     // The angle of so many 2^32nds of a turn.
-    pub fn of(parts: u32) -> Angle
-        ensures { λ r. ⌜ Making parts r ⌝ }
+    fn of(parts: u32) -> Angle
+        ensures { λ r. ⌜ r ≡ angleOf parts ⌝ }
     {
         Angle { parts }
     }
@@ -102,8 +105,8 @@ fn chosen(above: bool, below: bool, x: i64, y: i64, z: i64) -> i64
     if below { y } else { z }
 }
 
-// One of three angles' parts, by two tests.
-fn chosen_parts(above: bool, below: bool, x: u32, y: u32, z: u32) -> u32
+// One of three angles, by two tests.
+fn chosen_angle(above: bool, below: bool, x: Angle, y: Angle, z: Angle) -> Angle
     ensures { λ r. ⌜ r ≡ cond above x (cond below y z) ⌝ }
 {
     if above {
@@ -112,53 +115,36 @@ fn chosen_parts(above: bool, below: bool, x: u32, y: u32, z: u32) -> u32
     if below { y } else { z }
 }
 
-// Step i, on what the step before it left, where a is A(i). Both outcomes are at hand before the sign of im chooses, so that no branch is guessed.
-fn one_step(v: Turning, i: usize, a: u32) -> Turning
+// Step i, on what the step before it left, where a is A(i).
+fn one_step(re: i64, im: i64, angle: Angle, i: usize, a: u32) -> Turning
     requires { ⌜ (i < 24) × (a ≡ arctan i) ⌝ }
-    requires { ⌜ Sized (2 ^ 60) (v .re) (v .im) ⌝ }
-    ensures { λ r. ⌜ r ≡ step i v ⌝ }
+    requires { ⌜ Sized (2 ^ 60) re im ⌝ }
+    ensures { λ r. ⌜ r ≡ step i (record { re = re; im = im; angle = angle }) ⌝ }
 {
-    let re = v.re;
-    let im = v.im;
-    let angle = v.angle;
     let re_part = floor_shift(re, i);
     let im_part = floor_shift(im, i);
-    let re_above = re + im_part;
-    let im_above = im - re_part;
-    let re_below = re - im_part;
-    let im_below = im + re_part;
-    let more = angle.more(a);
-    let fewer = angle.fewer(a);
     let above = im > 0;
     let below = im < 0;
-    let parts = chosen_parts(above, below, more.parts, fewer.parts, angle.parts);
     Turning {
-        re: chosen(above, below, re_above, re_below, re),
-        im: chosen(above, below, im_above, im_below, im),
-        angle: Angle { parts },
+        re: chosen(above, below, re + im_part, re - im_part, re),
+        im: chosen(above, below, im - re_part, im + re_part, im),
+        angle: chosen_angle(above, below, angle.more(a), angle.fewer(a), angle),
     }
 }
 
-// The angle's parts after the steps that are left, from 24 down to none. It takes and answers plain numbers, so that it runs as a loop.
-fn steps_left(left: usize, re: i64, im: i64, parts: u32, table: &[u32; 24]) -> u32
+// The angle's parts after the steps that are left, from 24 down to none.
+fn steps_left(left: usize, re: i64, im: i64, angle: Angle, table: &[u32; 24]) -> u32
     requires { ⌜ left ≤ 24 ⌝ }
     requires { ⌜ Sized (cap (24 - left)) re im ⌝ }
     requires { ⌜ now table ≡ arctans ⌝ }
-    ensures { λ r. ⌜ r ≡ (steps left (record { re = re; im = im; angle = angleOf parts })) .angle .parts ⌝ }
+    ensures { λ r. ⌜ r ≡ (steps left (record { re = re; im = im; angle = angle })) .angle .parts ⌝ }
 {
     if left == 0 {
-        parts
+        angle.parts
     } else {
         let i = 24 - left;
-        let a = table[i];
-        let held = Turning {
-            re,
-            im,
-            angle: Angle { parts },
-        };
-        let v = one_step(held, i, a);
-        let angle = v.angle;
-        steps_left(left - 1, v.re, v.im, angle.parts, table)
+        let v = one_step(re, im, angle, i, table[i]);
+        steps_left(left - 1, v.re, v.im, v.angle, table)
     }
 }
 
@@ -181,33 +167,29 @@ fn first_quadrant(p: Phasor) -> Turning
 {
     let re = p.re;
     let im = p.im;
-    if re > 0 && im >= 0 {
+    if (re > 0) & (im >= 0) {
         return Turning {
             re,
             im,
             angle: Angle::ZERO,
         };
     }
-    if re <= 0 && im > 0 {
-        let y = -re;
+    if (re <= 0) & (im > 0) {
         return Turning {
             re: im,
-            im: y,
+            im: -re,
             angle: Angle::QUARTER,
         };
     }
-    if re < 0 && im <= 0 {
-        let x = -re;
-        let y = -im;
+    if (re < 0) & (im <= 0) {
         return Turning {
-            re: x,
-            im: y,
+            re: -re,
+            im: -im,
             angle: Angle::HALF,
         };
     }
-    let x = -im;
     Turning {
-        re: x,
+        re: -im,
         im: re,
         angle: Angle::HALF.more(Angle::QUARTER.parts),
     }
@@ -217,16 +199,25 @@ fn first_quadrant(p: Phasor) -> Turning
 fn is_below(z: i64, limit: u32) -> bool
     ensures { λ r. ⌜ r ≡ ltb (natAbs z) limit ⌝ }
 {
-    let l = limit as i64;
-    let m = -l;
-    m < z && z < l
+    let most = limit as i64;
+    (-most < z) & (z < most)
 }
 
-// Whether both parts are too small to have a phase.
-fn is_silent(p: Phasor, limit: u32) -> bool
-    ensures { λ r. ⌜ r ≡ silent limit p ⌝ }
+// Whether |re| and |im| are both below the limit: then there is no phase.
+fn has_no_phase(p: Phasor, limit: u32) -> bool
+    ensures { λ r. ⌜ r ≡ noPhase limit p ⌝ }
 {
-    is_below(p.re, limit) && is_below(p.im, limit)
+    is_below(p.re, limit) & is_below(p.im, limit)
+}
+
+// The angle of a positive sequence that has a phase.
+fn phase_angle(p: Phasor) -> Angle
+    requires { ⌜ Small p ⌝ }
+    ensures { λ r. ⌜ r ≡ phaseAngle p ⌝ }
+{
+    let v = first_quadrant(times_65536(p));
+    let arctans = ARCTAN;
+    Angle::of(steps_left(24, v.re, v.im, v.angle, &arctans))
 }
 
 // The phase of a positive sequence; there is none where both parts are below the limit.
@@ -234,18 +225,14 @@ pub(crate) fn phase_of(p: Phasor, limit: u32) -> Phase
     requires { ⌜ Small p ⌝ }
     ensures { λ r. ⌜ r ≡ phaseOf limit p ⌝ }
 {
-    if is_silent(p, limit) {
+    if has_no_phase(p, limit) {
         return Phase {
             angle: Angle::ZERO,
             none: true,
         };
     }
-    let v = first_quadrant(times_65536(p));
-    let base = v.angle;
-    let arctans = ARCTAN;
-    let parts = steps_left(24, v.re, v.im, base.parts, &arctans);
     Phase {
-        angle: Angle { parts },
+        angle: phase_angle(p),
         none: false,
     }
 }

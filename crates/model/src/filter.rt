@@ -2,7 +2,7 @@
 ghost use mathlib.Core.Path.{_≡_};
 ghost use Prim.Native.Nat.{_+_, _*_, _%_, _≤_, _<_};
 ghost use lib.IntN.{pos, natAbs, _*ℤ_};
-ghost use Rattle.model.specs.Filter.{weight, entry, three, weighted, positive, windowed};
+ghost use Rattle.model.specs.Filter.{weight, offset, entryAt, phaseSum, weighted, positive, windowed};
 ghost use Rattle.model.specs.Bounds.{Tabled, Sized, Small};
 
 // One sample of the three phases.
@@ -13,9 +13,9 @@ pub struct Sample {
 }
 
 // The positive sequence at a centre, as the filter's sums give it.
-pub struct Phasor {
-    pub re: i64,
-    pub im: i64,
+pub(crate) struct Phasor {
+    pub(crate) re: i64,
+    pub(crate) im: i64,
 }
 
 // Both sums over the samples: with the cosines, and the same with the sines.
@@ -62,10 +62,10 @@ const SIN: [i64; 15] = [
     -6664,
 ];
 
-// The weight of offset k = j - 14: 15 - |k|.
+// The weight of term j, which is at offset k = j - 14: 15 - |k|.
 fn weight_of(j: usize) -> usize
     requires { ⌜ j < 29 ⌝ }
-    ensures { λ r. ⌜ r ≡ weight j ⌝ }
+    ensures { λ r. ⌜ r ≡ weight (offset j) ⌝ }
 {
     if j < 15 { j + 1 } else { 29 - j }
 }
@@ -98,7 +98,7 @@ fn ten_on(n: usize) -> usize
 fn times_entry(x: i16, table: &[i64; 15], n: usize) -> i64
     requires { ⌜ n < 15 ⌝ }
     requires { ⌜ Tabled (now table) ⌝ }
-    ensures is { λ r. ⌜ r ≡ x *ℤ entry (now (table .entry)) n ⌝ }
+    ensures is { λ r. ⌜ r ≡ x *ℤ entryAt (now (table .entry)) n ⌝ }
     ensures small { λ r. ⌜ natAbs r ≤ 536870912 ⌝ }
 {
     let z = x as i64;
@@ -106,11 +106,11 @@ fn times_entry(x: i16, table: &[i64; 15], n: usize) -> i64
     z * e
 }
 
-// A sample against three entries of a table, five apart: 120 degrees.
-fn three_entries(s: Sample, table: &[i64; 15], n: usize) -> i64
+// a·cos n + b·cos(n-5) + c·cos(n-10) of a sample, or the same with sin: five entries are 120 degrees.
+fn phase_sum(s: Sample, table: &[i64; 15], n: usize) -> i64
     requires { ⌜ n < 15 ⌝ }
     requires { ⌜ Tabled (now table) ⌝ }
-    ensures is { λ r. ⌜ r ≡ three (now (table .entry)) s n ⌝ }
+    ensures is { λ r. ⌜ r ≡ phaseSum (now (table .entry)) s n ⌝ }
     ensures small { λ r. ⌜ natAbs r ≤ 1610612736 ⌝ }
 {
     let a = times_entry(s.a, table, n);
@@ -120,20 +120,20 @@ fn three_entries(s: Sample, table: &[i64; 15], n: usize) -> i64
     ab + c
 }
 
-// One term of a sum: the sample at offset j - 14, which meets entry n, times its weight.
+// Term j of a sum: the weight times the phase sum of its sample, whose index is n mod 15.
 fn term_of(s: Sample, table: &[i64; 15], n: usize, j: usize) -> i64
     requires { ⌜ n < 15 ⌝ }
     requires { ⌜ j < 29 ⌝ }
     requires { ⌜ Tabled (now table) ⌝ }
-    ensures is { λ r. ⌜ r ≡ pos (weight j) *ℤ three (now (table .entry)) s n ⌝ }
-    ensures small { λ r. ⌜ natAbs r ≤ weight j * 1610612736 ⌝ }
+    ensures is { λ r. ⌜ r ≡ pos (weight (offset j)) *ℤ phaseSum (now (table .entry)) s n ⌝ }
+    ensures small { λ r. ⌜ natAbs r ≤ weight (offset j) * 1610612736 ⌝ }
 {
     let g = weight_of(j) as i64;
-    let x = three_entries(s, table, n);
+    let x = phase_sum(s, table, n);
     g * x
 }
 
-// The weighted sums over 29 samples, the first of which meets entry n: both in one pass, since they share the entries' places and the weights.
+// The weighted sums over 29 samples, the first of which has index n mod 15.
 fn weighted_sums(samples: [Sample; 29], cosines: &[i64; 15], sines: &[i64; 15], n: usize) -> Sums
     requires { ⌜ n < 15 ⌝ }
     requires { ⌜ Tabled (now cosines) × Tabled (now sines) ⌝ }
@@ -147,10 +147,8 @@ fn weighted_sums(samples: [Sample; 29], cosines: &[i64; 15], sines: &[i64; 15], 
     let mut j = 0;
     while j < 29 {
         let s = samples[j];
-        let x = term_of(s, cosines, m, j);
-        let y = term_of(s, sines, m, j);
-        cosine = cosine + x;
-        sine = sine + y;
+        cosine += term_of(s, cosines, m, j);
+        sine += term_of(s, sines, m, j);
         m = one_on(m);
         j += 1;
     }
@@ -166,8 +164,9 @@ pub(crate) fn positive_sequence(samples: [Sample; 29], index: usize) -> Phasor
     let cosines = COS;
     let sines = SIN;
     let sums = weighted_sums(samples, &cosines, &sines, n);
-    let re = sums.cosine;
-    let minus = sums.sine;
-    let im = -minus;
-    Phasor { re, im }
+    let im = -sums.sine;
+    Phasor {
+        re: sums.cosine,
+        im,
+    }
 }

@@ -2,14 +2,9 @@
 mod angle;
 mod filter;
 mod report;
-mod sampling;
 
 pub use angle::Angle;
 pub use angle::Phase;
-pub use filter::Phasor;
 pub use filter::Sample;
 pub use report::Figures;
-pub use report::Scale;
-pub use report::centre_phase;
 pub use report::measure;
-pub use sampling::Nominal;

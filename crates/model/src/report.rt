@@ -5,12 +5,13 @@ use crate::angle::phase_of;
 use crate::filter::Phasor;
 use crate::filter::Sample;
 use crate::filter::positive_sequence;
-use crate::sampling::Nominal;
+use bits::signed32;
+use sampling::Nominal;
 ghost use mathlib.Core.Path.{_≡_};
 ghost use Prim.Native.Nat.{_+_, _^_, _≤_, _<_};
 ghost use lib.IntN.{natAbs};
 ghost use lib.ListN.{take, drop};
-ghost use Rattle.model.specs.Report.{minus, minusTwice, signed32, over, deviationOf, rocofOf, differences, joined, figuresAt, Measuring, Phasing};
+ghost use Rattle.model.specs.Report.{difference, secondDifference, over, deviationOf, rocofOf, differences, joined, figuresAt, Measuring};
 ghost use Rattle.model.specs.Filter.{positive, windowed};
 ghost use Rattle.model.specs.Bounds.{Small};
 
@@ -31,11 +32,12 @@ pub struct Figures {
 }
 
 // The limit below which re and im have no phase, and the number that each is divided by to give peak counts.
-pub struct Scale {
-    pub limit: u32,
-    pub divisor: u32,
+struct Scale {
+    limit: u32,
+    divisor: u32,
 }
 
+// No phase is re = im = 0; peak counts are re and im divided by 5529600.
 const THREE_PHASE: Scale = Scale {
     limit: 1,
     divisor: 5529600,
@@ -50,48 +52,36 @@ struct Differences {
 
 // r - p, modulo 2^32.
 fn difference(p: Angle, r: Angle) -> u32
-    ensures { λ d. ⌜ d ≡ minus r p ⌝ }
+    ensures { λ d. ⌜ d ≡ difference p r ⌝ }
 {
     std::num::wrapping_sub_u32(r.parts, p.parts)
 }
 
 // r - 2q + p, modulo 2^32, as (r - q) - (q - p).
 fn second_difference(p: Angle, q: Angle, r: Angle) -> u32
-    ensures { λ d. ⌜ d ≡ minusTwice p q r ⌝ }
+    ensures { λ d. ⌜ d ≡ secondDifference p q r ⌝ }
 {
     let later = difference(q, r);
     let sooner = difference(p, q);
     std::num::wrapping_sub_u32(later, sooner)
 }
 
-// The 32 bits read as a signed number.
-fn signed(n: u32) -> i32
-    ensures { λ z. ⌜ z ≡ signed32 n ⌝ }
-{
-    if n < 2147483648 {
-        n as i32
-    } else {
-        !(!n as i32)
-    }
-}
-
 // d1 and d2 of the phases at i-1, i and i+1; both 0 and the mark 1 where one of them is none.
 fn differences_of(p: Phase, q: Phase, r: Phase) -> Differences
     ensures { λ d. ⌜ d ≡ differences p q r ⌝ }
 {
-    if p.none || q.none || r.none {
+    if p.none | q.none | r.none {
         return Differences {
             d1: 0,
             d2: 0,
             mark: 1,
         };
     }
-    let before = p.angle;
-    let centre = q.angle;
-    let after = r.angle;
-    let d1 = signed(difference(before, after));
-    let d2 = signed(second_difference(before, centre, after));
-    Differences { d1, d2, mark: 0 }
+    Differences {
+        d1: signed32(difference(p.angle, r.angle)),
+        d2: signed32(second_difference(p.angle, q.angle, r.angle)),
+        mark: 0,
+    }
 }
 
 // A whole number made a float, which loses nothing, and divided once.
@@ -149,31 +139,29 @@ fn join(p: Phasor, d: Differences, nominal: Nominal, scale: Scale) -> Figures
 }
 
 // The 29 samples of a window from a place on.
-fn part(window: [Sample; 31], from: usize) -> [Sample; 29]
+fn samples_from(window: [Sample; 31], from: usize) -> [Sample; 29]
     requires { ⌜ from ≤ 2 ⌝ }
     ensures { λ r. ⌜ r ≡ take 29 (drop from window) ⌝ }
 {
     let mut samples = [Sample { a: 0, b: 0, c: 0 }; 29];
     let mut j = 0;
     while j < 29 {
-        let i = from + j;
-        let s = window[i];
-        samples[j] = s;
+        samples[j] = window[from + j];
         j += 1;
     }
     samples
 }
 
-// The positive sequence at the centre of the 29 samples from a place on, where n is the index of the window's first sample.
+// The positive sequence at the centre of the 29 samples from a place on, where n is the index of the window's first sample mod 15.
 fn positive_from(window: [Sample; 31], n: usize, from: usize) -> Phasor
     requires { ⌜ (n < 15) × (from ≤ 2) ⌝ }
     ensures is { λ r. ⌜ r ≡ positive (windowed window n) (n + from + 14) ⌝ }
     ensures small { λ r. ⌜ Small r ⌝ }
 {
-    positive_sequence(part(window, from), n + from)
+    positive_sequence(samples_from(window, from), n + from)
 }
 
-// The figures at the centre of a window, the sixteenth sample, where the first one's index is n.
+// The figures at the centre of a window, the sixteenth sample, where n is the first one's index mod 15.
 fn measure_by(window: [Sample; 31], n: usize, nominal: Nominal, scale: Scale) -> Figures
     requires { ⌜ n < 15 ⌝ }
     ensures { λ r. ⌜ r ≡ figuresAt scale nominal (windowed window n) (n + 15) ⌝ }
@@ -186,13 +174,6 @@ fn measure_by(window: [Sample; 31], n: usize, nominal: Nominal, scale: Scale) ->
     let q = phase_of(centre, limit);
     let r = phase_of(after, limit);
     join(centre, differences_of(p, q, r), nominal, scale)
-}
-
-// The phase at the centre of 29 samples, the first of which has this index.
-pub fn centre_phase(samples: [Sample; 29], index: usize) -> Phase
-    ensures { λ r. ⌜ Phasing samples index r ⌝ }
-{
-    phase_of(positive_sequence(samples, index), THREE_PHASE.limit)
 }
 
 // The figures at the centre of 31 samples, the first of which has this index.

@@ -1,6 +1,6 @@
 -- What a whole sample or a whole header leads to, by the answer of the bank's call. Assumes nothing.
 use mathlib.Core.Path.{_≡_, refl, sym, ap, _∙_, subst}
-use mathlib.Core.Bool.{true, false}
+use mathlib.Core.Bool.{false}
 use mathlib.Core.List.{List}
 use Prim.Native.Nat.{ℕ, _+_, _%_, _^_, _<_}
 use native.Mathlib.Omega.{arith}
@@ -11,19 +11,17 @@ use Rattle.feed.specs.declared.Answer.the-variants.{Refused, Taken, Reported}
 use Rattle.feed.specs.declared.Report.{Report}
 use Rattle.feed.specs.Answers.{said}
 use Rattle.bank.specs.declared.Settled.{Settled}
-use Rattle.bank.specs.declared.Settled.the-variants.{Done}
-use Rattle.bank.specs.declared.Settled.the-variants.{Refused as NotOpened}
+use Rattle.bank.specs.declared.Settled.the-variants.{Done, Refused as NotOpened}
 use Rattle.bank.specs.Calls.{Outcome, settled, openedAt, Clearing, Opening}
 use Rattle.phs.specs.declared.Stage.the-variants.{InSamples, Over}
-use Rattle.phs.specs.declared.Told.{Told}
-use Rattle.phs.specs.Header.{opens}
-use Rattle.phs.specs.Header.{Said as HeaderSaid, refused as refusedHeader}
-use Rattle.phs.specs.Lines.{headLine, reportLine, refusedLine, lineRoom}
-use Rattle.phs.specs.Stream.{Next, readerAt, sampled, openedIn, openedAs, begun}
-use Rattle.phs.specs.Inside.{Tells}
+use Rattle.phs.specs.declared.feeding.Led.{Led}
+use Rattle.header.specs.Header.{opens, Said as HeaderSaid, refused as refusedHeader}
+use Rattle.phs.specs.Lines.{headLine, reportLine, lineRoom}
+use Rattle.phs.specs.Stream.{Left, readerAt, sampled, openedIn, openedAs, begun}
+use Rattle.phs.specs.Inside.{Leads, Refuses, Begins}
 
-told-as : {n m : Next} {out bank out′ : List ℕ} {at : ℕ} {t : Told} → m ≡ n → Tells m out at t bank out′ → Tells n out at t bank out′
-told-as {n} {m} {out} {bank} {out′} {at} {t} e k = subst (λ (x : Next). Tells x out at t bank out′) e k
+led-as : {n m : Left} {out bank out′ : List ℕ} {at : ℕ} {t : Led} → m ≡ n → Leads m out at t bank out′ → Leads n out at t bank out′
+led-as {n} {m} {out} {bank} {out′} {at} {t} e k = subst (λ (x : Left). Leads x out at t bank out′) e k
 
 -- ---- a sample
 
@@ -36,23 +34,25 @@ module _ (reports samples : ℕ) (o : Outcome) (a : Answer) {bank : List ℕ} (p
   answer-is : {b : Answer} → a ≡ b → sampled reports samples (record { answer = said b; bank = bank }) ≡ sampled reports samples o
   answer-is {b} e = ap (sampled reports samples) (ap (λ (x : Answer). record { answer = said x; bank = bank }) (sym e) ∙ pushed)
 
-  pub sample-refused : {out out′ : List ℕ} {at n end : ℕ} → reports < 2 ^ 64 → samples < 2 ^ 64 → a ≡ Refused n → Wrote lineRoom (refusedLine n) out at end out′
-      → Tells (sampled reports samples o) out at (record { over = true; reports = reports; samples = samples; at = end }) bank out′
+  pub sample-refused : {out out′ : List ℕ} {at n : ℕ} {t : Led} → reports < 2 ^ 64 → samples < 2 ^ 64 → a ≡ Refused n → Refuses n reports samples out at t out′
+      → Leads (sampled reports samples o) out at t bank out′
   unfolding sampled
-  sample-refused {n} f g e w =
-      told-as (answer-is e) (record { reader = λ i. readerAt Over (uncounted reports f i) (uncounted samples g i); bank = refl; text = w })
+  sample-refused f g e w =
+      let counted : readerAt Over reports samples ≡ readerAt Over ((reports + 0) % 2 ^ 64) ((samples + 0) % 2 ^ 64) = λ i. readerAt Over (uncounted reports f i) (uncounted samples g i) in
+      led-as (answer-is e) (record { step = record { reader = w .reader ∙ counted; bank = refl; text = w .text } })
 
   pub sample-taken : {out : List ℕ} {at samples′ : ℕ} → reports < 2 ^ 64 → a ≡ Taken → samples′ ≡ (samples + 1) % 2 ^ 64
-      → Tells (sampled reports samples o) out at (record { over = false; reports = reports; samples = samples′; at = at }) bank out
+      → Leads (sampled reports samples o) out at (record { over = false; reports = reports; samples = samples′; at = at }) bank out
   unfolding sampled
   sample-taken f e q =
-      told-as (answer-is e) (record { reader = λ i. readerAt InSamples (uncounted reports f i) (q i); bank = refl; text = nothing })
+      led-as (answer-is e) (record { step = record { reader = λ i. readerAt InSamples (uncounted reports f i) (q i); bank = refl; text = nothing } })
 
-  pub sample-reported : {r : Report} {out out′ : List ℕ} {reports′ samples′ at end : ℕ} → a ≡ Reported r → reports′ ≡ (reports + 1) % 2 ^ 64 → samples′ ≡ (samples + 1) % 2 ^ 64
+  pub sample-reported : {r : Report} {out out′ : List ℕ} {reports′ samples′ at end : ℕ}
+      → a ≡ Reported r → reports′ ≡ (reports + 1) % 2 ^ 64 → samples′ ≡ (samples + 1) % 2 ^ 64
       → Wrote lineRoom (reportLine (r .soc) (r .frame) (r .re) (r .im) (r .d1) (r .d2) (r .mark)) out at end out′
-      → Tells (sampled reports samples o) out at (record { over = false; reports = reports′; samples = samples′; at = end }) bank out′
+      → Leads (sampled reports samples o) out at (record { over = false; reports = reports′; samples = samples′; at = end }) bank out′
   unfolding sampled
-  sample-reported e p q w = told-as (answer-is e) (record { reader = λ i. readerAt InSamples (p i) (q i); bank = refl; text = w })
+  sample-reported e p q w = led-as (answer-is e) (record { step = record { reader = λ i. readerAt InSamples (p i) (q i); bank = refl; text = w } })
 
 -- ---- a header
 
@@ -61,23 +61,25 @@ pub opened-after : (bank b after : List ℕ) (r a : Settled) (nominal rate soc :
     → record { answer = settled a; bank = after } ≡ openedIn bank nominal rate soc
 opened-after bank b after r a nominal rate soc p q = q ∙ ap (λ (x : Outcome). openedAt (x .bank) 0 nominal rate soc) p
 
-module _ (bank : List ℕ) (said : HeaderSaid) where
-  pub header-refused : {out out′ : List ℕ} {at n end : ℕ} → refusedHeader n ≡ said → Wrote lineRoom (refusedLine n) out at end out′
-      → Tells (begun bank said) out at (record { over = true; reports = 0; samples = 0; at = end }) bank out′
+-- the first line
+module _ (version nominal rate : ℕ) (a : Settled) {out out′ : List ℕ} {at : ℕ} where
+  begins-as : {b : Settled} {t : Led} → a ≡ b → Begins version nominal rate b out at t out′ → Begins version nominal rate a out at t out′
+  begins-as {b} {t} e k = subst (λ (x : Settled). Begins version nominal rate x out at t out′) (sym e) k
+
+  pub not-opened : {n : ℕ} {t : Led} → a ≡ NotOpened n → Refuses n 0 0 out at t out′ → Begins version nominal rate a out at t out′
+  not-opened e w = begins-as e (λ bank. record { step = record { reader = w .reader; bank = refl; text = w .text } })
+
+  pub is-opened : {end : ℕ} → a ≡ Done → Wrote lineRoom (headLine version nominal rate) out at end out′
+      → Begins version nominal rate a out at (record { over = false; reports = 0; samples = 0; at = end }) out′
+  is-opened e w = begins-as e (λ bank. record { step = record { reader = refl; bank = refl; text = w } })
+
+module _ (bank : List ℕ) (said : HeaderSaid) {out out′ : List ℕ} {at : ℕ} {t : Led} where
+  pub header-refused : {n : ℕ} → refusedHeader n ≡ said → Refuses n 0 0 out at t out′ → Leads (begun bank said) out at t bank out′
   unfolding begun
-  header-refused e w = told-as (ap (begun bank) e) (record { reader = refl; bank = refl; text = w })
+  header-refused e w = led-as (ap (begun bank) e) (record { step = record { reader = w .reader; bank = refl; text = w .text } })
 
-  module _ {version nominal rate soc : ℕ} (e : opens version nominal rate soc ≡ said) (a : Settled) {bank′ : List ℕ}
-      (opened : record { answer = settled a; bank = bank′ } ≡ openedIn bank nominal rate soc) where
-    -- the opening's answer
-    opened-as : {b : Settled} → a ≡ b → openedAs version nominal rate (record { answer = settled b; bank = bank′ }) ≡ begun bank said
-    unfolding begun
-    opened-as {b} q = ap (openedAs version nominal rate) (ap (λ (x : Settled). record { answer = settled x; bank = bank′ }) (sym q) ∙ opened) ∙ ap (begun bank) e
-
-    pub not-opened : {out out′ : List ℕ} {at n end : ℕ} → a ≡ NotOpened n → Wrote lineRoom (refusedLine n) out at end out′
-        → Tells (begun bank said) out at (record { over = true; reports = 0; samples = 0; at = end }) bank′ out′
-    not-opened q w = told-as (opened-as q) (record { reader = refl; bank = refl; text = w })
-
-    pub is-opened : {out out′ : List ℕ} {at end : ℕ} → a ≡ Done → Wrote lineRoom (headLine version nominal rate) out at end out′
-        → Tells (begun bank said) out at (record { over = false; reports = 0; samples = 0; at = end }) bank′ out′
-    is-opened q w = told-as (opened-as q) (record { reader = refl; bank = refl; text = w })
+  pub header-opens : {version nominal rate soc : ℕ} (a : Settled) {bank′ : List ℕ} → opens version nominal rate soc ≡ said
+      → record { answer = settled a; bank = bank′ } ≡ openedIn bank nominal rate soc → Begins version nominal rate a out at t out′
+      → Leads (begun bank said) out at t bank′ out′
+  unfolding begun
+  header-opens {version} {nominal} {rate} a {bank′} e o w = led-as (ap (openedAs version nominal rate) o ∙ ap (begun bank) e) (w bank′)

@@ -8,8 +8,8 @@ use lib.Dec.{eqb}
 use lib.ListN.{length-append}
 use borrow.Author.Tests.{eqb-true, eqb-false, eq-eqb}
 use Rattle.model.specs.declared.filter.Sample.{Sample}
-use Rattle.feed.specs.Tags.{servedNominal, socOf, indexOf}
-use Rattle.model.specs.Sampling.{samplingOf}
+use Rattle.sampling.specs.Tags.{servedNominal, socOf, indexOf}
+use Rattle.sampling.specs.Sampling.{samplingOf}
 use Rattle.feed.specs.Answers.{Said, refused, done, taken, takenWith}
 use Rattle.feed.specs.History.{History, nextNumber, opening, grown, answered, Told, told}
 use Rattle.feed.proofs.Alike.{isLast, told-last, told-on}

@@ -11,22 +11,22 @@ use lib.Seq.{sets, sets-eq, take-append-seam}
 use Rattle.phs.specs.declared.Reader.{Reader}
 use Rattle.phs.specs.declared.Moved.{Moved}
 use Rattle.phs.specs.Lines.{lineRoom}
-use Rattle.phs.specs.Stream.{Next, stepped, Fed, fed, Read, outcome, Reading}
+use Rattle.phs.specs.Stream.{Left, afterByte, Fed, fed, Read, outcome, Reading}
 use Rattle.phs.specs.Cut.{Bytes, Cut, none, call}
 
 -- bytes in a row, with all the room there is
-abbrev pub after : Next → Next → Next
+abbrev pub after : Left → Left → Left
 after n m = record { reader = m .reader; bank = m .bank; text = n .text ++ m .text }
 
-unfoldable pub stream : Reader → List ℕ → List ℕ → Next
+unfoldable pub stream : Reader → List ℕ → List ℕ → Left
 stream r bank [] = record { reader = r; bank = bank; text = [] }
-stream r bank (b ∷ bs) = after (stepped r bank b) (stream (stepped r bank b .reader) (stepped r bank b .bank) bs)
+stream r bank (b ∷ bs) = after (afterByte r bank b) (stream (afterByte r bank b .reader) (afterByte r bank b .bank) bs)
 
 pub stream-append : (r : Reader) (bank x y : List ℕ) → stream r bank (x ++ y) ≡ after (stream r bank x) (stream (stream r bank x .reader) (stream r bank x .bank) y)
 unfolding stream
 stream-append r bank [] y = refl
 stream-append r bank (b ∷ x) y =
-    let n = stepped r bank b in
+    let n = afterByte r bank b in
     let m = stream (n .reader) (n .bank) x in
     let l = stream (m .reader) (m .bank) y in
     ap (after n) (stream-append (n .reader) (n .bank) x y)
@@ -34,7 +34,7 @@ stream-append r bank (b ∷ x) y =
 
 -- ---- a call reads what the stream reads
 
-abbrev flowed : Fed → Next
+abbrev flowed : Fed → Left
 flowed f = record { reader = f .reader; bank = f .bank; text = f .text }
 
 fed-stream : (room : ℕ) (r : Reader) (bank part : List ℕ) → stream r bank (take (fed room r bank part .read) part) ≡ flowed (fed room r bank part)
@@ -42,8 +42,8 @@ unfolding fed stream
 fed-stream room r bank [] = refl
 fed-stream room r bank (b ∷ bs) = by (ltb room lineRoom) refl (fed-stream (room - length (n .text)) (n .reader) (n .bank) bs)
   where
-    n : Next
-    n = stepped r bank b
+    n : Left
+    n = afterByte r bank b
 
     f : Fed
     f = fed (room - length (n .text)) (n .reader) (n .bank) bs
@@ -83,7 +83,7 @@ module _ {r : Reader} {bank part out bank′ out′ : List ℕ} {m : Moved} (p :
       ∙ fed-stream (length out) r bank part
       ∙ (λ i. record { reader = sym (p .ends) i .moved .reader; bank = sym (p .ends) i .bank; text = sym text-is i })
 
-pub record Flows (n : Next) (text : List ℕ) (q : Reader) : Type 0 where
+pub record Flows (n : Left) (text : List ℕ) (q : Reader) : Type 0 where
   pub reader-is : n .reader ≡ q
   pub text-is : n .text ≡ text
 
@@ -93,10 +93,10 @@ cut-stream none = record { reader-is = refl; text-is = refl }
 cut-stream {r} {q} {bank} (call {file = file} {text = text} part out m bank′ out′ bytes p c) =
     let rest = cut-stream c in
     let e = stream-append r bank (take (m .read) part) file
-    ∙ ap (λ (n : Next). after n (stream (n .reader) (n .bank) file)) (call-stream p) in
+    ∙ ap (λ (n : Left). after n (stream (n .reader) (n .bank) file)) (call-stream p) in
     record {
-      reader-is = ap (λ (n : Next). n .reader) e ∙ rest .reader-is;
-      text-is = ap (λ (n : Next). n .text) e ∙ ap (λ (t : List ℕ). take (m .written) out′ ++ t) (rest .text-is);
+      reader-is = ap (λ (n : Left). n .reader) e ∙ rest .reader-is;
+      text-is = ap (λ (n : Left). n .text) e ∙ ap (λ (t : List ℕ). take (m .written) out′ ++ t) (rest .text-is);
     }
 
 -- ---- a file in parts is made of bytes

@@ -2,15 +2,14 @@
 use mathlib.Core.Path.{_≡_, refl, sym, ap, _∙_, subst}
 use mathlib.Core.Bool.{Bool, true, false, cond, _||_}
 use mathlib.Core.List.{List, [], _∷_}
-use Prim.Native.Nat.{ℕ, _^_, _≤_, _<_}
+use Prim.Native.Nat.{ℕ, _^_, _<_}
 use native.Mathlib.Omega.{arith}
 use lib.Dec.{eqb}
-use lib.ListN.{length}
-use borrow.Author.Tests.{not-false, lt-ltb, le-ltb, eq-eqb, ne-eqb}
+use borrow.Author.Tests.{not-false}
 use Rattle.refusals.specs.Refusals.{Refusal, unlessRefused}
 use Rattle.refusals.proofs.Passing.{pass, stop}
-use Rattle.feed.specs.Tags.{servedNominal, servedRate, keptRate, noNominal, noRate}
-use Rattle.phs.specs.Header.{Said, refused, opens, headed, isMark, tooShort, noMark, noVersion, versionIn, nominalIn, rateIn, rateKept, socIn}
+use Rattle.sampling.specs.Tags.{servedNominal, servedRate, keptRate, noNominal, noRate}
+use Rattle.header.specs.Header.{Said, refused, opens, headed, tooShort, noMark, noVersion, versionIn, nominalIn, rateIn, socIn}
 use Rattle.phs.specs.Cut.{Bytes}
 use Rattle.phs.proofs.Counts.{served-cases}
 
@@ -52,7 +51,7 @@ soc-fits h b = omega (arith, b 7, b 8, b 9, b 10)
 pub header-known : (h : List ℕ) → Bytes h → Known (headed h)
 unfolding headed
 header-known h b =
-    let grant : Said = opens (versionIn h) (nominalIn h) (rateKept (versionIn h) (nominalIn h) (rateIn h)) (socIn h) in
+    let grant : Said = opens (versionIn h) (nominalIn h) (keptRate (nominalIn h) (rateIn h)) (socIn h) in
     let six = noNominal (nominalIn h) in
     let seven = noRate (nominalIn h) (rateIn h) in
     by-refusals Known not-read grant (tooShort h) (noMark h ∷ noVersion h ∷ six ∷ seven ∷ [])
@@ -61,35 +60,3 @@ header-known h b =
     (λ e. by-refusals Known not-read grant six (seven ∷ [])
     (λ n. by-refusals Known not-read grant seven []
     (λ r. is-read (not-false _ n) (rate-kept _ _ (not-false _ n) (not-false _ r)) (soc-fits h b))))))
-
--- ---- the refusals one by one, and what a header that passes them opens
-
-module _ (h : List ℕ) where
-  pub too-short : length h < 11 → refused 14 ≡ headed h
-  unfolding headed
-  too-short l = rw (lt-ltb (length h) 11 l)
-
-  module _ (long : 11 ≤ length h) where
-    pub no-mark : isMark h ≡ false → refused 12 ≡ headed h
-    unfolding headed
-    no-mark m = rw (le-ltb (length h) 11 long, m)
-
-    module _ (marked : isMark h ≡ true) where
-      pub no-version : (versionIn h ≡ 1 → ⊥) → refused 13 ≡ headed h
-      unfolding headed
-      no-version v = rw (le-ltb (length h) 11 long, marked, ne-eqb (versionIn h) 1 v)
-
-      module _ (first : versionIn h ≡ 1) where
-        pub no-nominal : servedNominal (nominalIn h) ≡ false → refused 6 ≡ headed h
-        unfolding headed
-        no-nominal n = rw (le-ltb (length h) 11 long, marked, eq-eqb (versionIn h) 1 first, n)
-
-        module _ (served : servedNominal (nominalIn h) ≡ true) where
-          pub no-rate : (servedRate (nominalIn h) (rateIn h) || eqb (rateIn h) 0) ≡ false → refused 7 ≡ headed h
-          unfolding headed
-          no-rate r = rw (le-ltb (length h) 11 long, marked, eq-eqb (versionIn h) 1 first, served, r)
-
-          pub all-passed : (servedRate (nominalIn h) (rateIn h) || eqb (rateIn h) 0) ≡ true
-              → opens (versionIn h) (nominalIn h) (rateKept (versionIn h) (nominalIn h) (rateIn h)) (socIn h) ≡ headed h
-          unfolding headed
-          all-passed r = rw (le-ltb (length h) 11 long, marked, eq-eqb (versionIn h) 1 first, served, r)

@@ -10,17 +10,16 @@ use borrow.Author.Tests.{eq-eqb, eqb-true}
 use lib.Seq.{take-at}
 use Rattle.model.specs.declared.filter.Sample.{Sample}
 use Rattle.feed.specs.declared.Feed.{Feed}
-use Rattle.feed.specs.Tags.{servedNominal, servedRate, keptRate}
+use Rattle.sampling.specs.Tags.{servedNominal, servedRate, keptRate}
 use Rattle.feed.specs.Answers.{refused, done}
 use Rattle.feed.specs.History.{History, opening, Told, told, answered}
 use Rattle.feed.specs.Places.{zeros}
-use Rattle.feed.specs.Ring.{opened, stored, historyOf, endOfTime}
+use Rattle.feed.specs.Ring.{opened, stored, historyOf, endOfTimeOf}
 use Rattle.feed.proofs.Stored.{Fits16}
 use Rattle.feed.proofs.Alike.{told-last, told-on}
-use Rattle.feed.proofs.Meeting.{Keeps, opening-kept, last-same, answer-kept}
-use Rattle.feed.proofs.Meeting.{stored-kept as still-keeps}
-use Rattle.bank.specs.Slot.{slotAt, withSlot, headOf, feedOf, slotOf, freeSlot}
-use Rattle.bank.specs.Damage.{isFree, isOpen, damaged}
+use Rattle.feed.proofs.Meeting.{Keeps, opening-kept, last-same, answer-kept, stored-kept as still-keeps}
+use Rattle.bank.specs.Slot.{slotAt, withSlot, headIn, feedIn, slotOf, freeSlot}
+use Rattle.bank.specs.Damage.{isFree, isOpen, isDamaged}
 use Rattle.bank.specs.Calls.{Outcome, cleared, openedAt, pushedAt}
 use Rattle.bank.proofs.Slots.{same-slot, length-kept}
 use Rattle.bank.proofs.Keeping.{Kept, feed-back, slot-whole, slot-open, kept-undamaged, free-undamaged}
@@ -90,7 +89,7 @@ module _ (bank : List ℕ) (whole : length bank ≡ 4096) (nominal rate soc : �
     whole = length-kept (zeros 4096) 0 zeros-length (omega arith) (slotOf fresh) fresh-slot;
     there = same-slot (zeros 4096) 0 zeros-length (omega arith) (slotOf fresh) fresh-slot;
     kept = fresh-kept;
-    keeps = rw rate-is at (opening-kept nominal rate soc served (ap (servedRate nominal) rate-is ∙ kept));
+    keeps = opening-kept nominal rate soc served (ap (servedRate nominal) rate-is ∙ kept);
   }
 
 -- ---- pushing
@@ -101,34 +100,34 @@ pub record Answers (o : Outcome) (t : Told) : Type 0 where
   pub holds : Holds (o .bank) (t .history)
 
 module _ (bank : List ℕ) (s : Sample) (f : Feed) (whole : length bank ≡ 4096) (there : slotAt bank 0 ≡ slotOf f) (kept : Kept f) where
-  feed-is : feedOf (slotAt bank 0) ≡ f
-  feed-is = ap feedOf there ∙ feed-back f (kept .whole)
+  feed-is : feedIn (slotAt bank 0) ≡ f
+  feed-is = ap feedIn there ∙ feed-back f (kept .whole)
 
-  head-is : headOf (slotAt bank 0) ≡ f .head
-  unfolding feedOf
+  head-is : headIn (slotAt bank 0) ≡ f .head
+  unfolding feedIn
   head-is = ap (λ (x : Feed). x .head) feed-is
 
-  undamaged : damaged (slotAt bank 0) ≡ false
-  undamaged = ap damaged there ∙ kept-undamaged f kept
+  undamaged : isDamaged (slotAt bank 0) ≡ false
+  undamaged = ap isDamaged there ∙ kept-undamaged f kept
 
   not-free : isFree (slotAt bank 0) ≡ false
   not-free = ap (λ (x : List ℕ). isFree x) there ∙ ap (λ (n : ℕ). eqb n 0) (slot-open f)
 
-  at-last : endOfTime (f .head) .due ≡ true → pushedAt bank 0 s ≡ record { answer = refused 8; bank = bank }
+  at-last : endOfTimeOf (f .head) .due ≡ true → pushedAt bank 0 s ≡ record { answer = refused 8; bank = bank }
   unfolding pushedAt
   at-last e = rw (eq-eqb (length bank) 4096 whole, undamaged, not-free, head-is, e)
 
-  at-next : endOfTime (f .head) .due ≡ false → pushedAt bank 0 s ≡ record { answer = answered (historyOf (stored f s)); bank = withSlot bank 0 (slotOf (stored f s)) }
+  at-next : endOfTimeOf (f .head) .due ≡ false → pushedAt bank 0 s ≡ record { answer = answered (historyOf (stored f s)); bank = withSlot bank 0 (slotOf (stored f s)) }
   unfolding pushedAt
   at-next e = rw (eq-eqb (length bank) 4096 whole, undamaged, not-free, head-is, e, feed-is)
 
 pub push-holds : (bank : List ℕ) (h : History) (s : Sample) → Holds bank h → Fits16 s → Answers (pushedAt bank 0 s) (told h s)
-push-holds bank h s k fits = go (endOfTime (k .feed .head) .due) refl
+push-holds bank h s k fits = go (endOfTimeOf (k .feed .head) .due) refl
   where
     next-slot : length (slotOf (stored (k .feed) s)) ≡ 256
     next-slot = slot-whole (stored (k .feed) s) (stored-kept (k .feed) s (k .kept) .whole)
 
-    go : (b : Bool) → endOfTime (k .feed .head) .due ≡ b → Answers (pushedAt bank 0 s) (told h s)
+    go : (b : Bool) → endOfTimeOf (k .feed .head) .due ≡ b → Answers (pushedAt bank 0 s) (told h s)
     go true e =
         rw (at-last bank s (k .feed) (k .whole) (k .there) (k .kept) e, told-last h s (last-same (k .feed) h (k .keeps) ∙ e))
         (record { answer-is = refl; holds = k })

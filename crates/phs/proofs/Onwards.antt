@@ -5,7 +5,7 @@ use mathlib.Core.List.{List, [], _++_, append-nil}
 use Prim.Native.Nat.{ℕ, _+_, _-_, _≤_, _<_}
 use native.Mathlib.Nat.{add-zero, zero-add, le-refl}
 use native.Mathlib.Omega.{arith}
-use lib.Dec.{eqb, leb}
+use lib.Dec.{eqb, leb, lit≤}
 use borrow.Author.Tests.{eqb-true, leb-true}
 use Rattle.bank.proofs.Blank.{both-true}
 use lib.ListN.{length, take, drop, getD, length-append, length-drop, take-append-drop, drop-of-length-le}
@@ -16,12 +16,13 @@ use Rattle.feed.specs.Places.{sampleOf}
 use Rattle.bank.specs.Calls.{pushedAt}
 use Rattle.phs.specs.declared.Stage.{Stage}
 use Rattle.phs.specs.declared.Stage.the-variants.{InHeader, InSamples, Over}
-use Rattle.phs.specs.declared.Told.{Told}
-use Rattle.phs.specs.declared.Step.{Step}
+use Rattle.phs.specs.declared.feeding.Led.{Led}
+use Rattle.phs.specs.declared.byte.Step.{Step}
 use Rattle.phs.specs.declared.Reader.{Reader}
+use Rattle.phs.specs.declared.Moved.{Moved}
 use Rattle.phs.specs.Lines.{lineRoom}
-use Rattle.phs.specs.Stream.{Next, sampled, stepped, Fed, unread, onto, fed, outcome, Reading}
-use Rattle.phs.specs.Inside.{readerOf, Tells, Steps, beginsIn, Place, wholeFrom, Onward}
+use Rattle.phs.specs.Stream.{Left, readerAt, sampled, afterByte, Fed, unread, onto, fed, outcome, Reading}
+use Rattle.phs.specs.Inside.{stepOf, Leads, Steps, beginsIn, Place, wholeFrom, Onward}
 use Rattle.phs.proofs.Counts.{clash}
 use Rattle.phs.proofs.Room.{onto-onto, Takes, takes-byte, takes-sample, no-room, none-left}
 
@@ -53,12 +54,12 @@ onward-then {part} {p} {q} {s} a b =
           ∙ drop-drop d (q .written) (p .out) ∙ ap (λ (n : ℕ). drop n (p .out)) e;
     }
 
--- the reader, said otherwise
-pub onward-to : {part : List ℕ} {p : Place} {q q′ : Reader} {bank out : List ℕ} {i at : ℕ} → q ≡ q′
+-- where the call has got to
+pub onward-reached : {part : List ℕ} {p : Place} {q : Reader} {bank out : List ℕ} {i at : ℕ} {m : Moved} → m ≡ record { reader = q; read = i; written = at }
     → Onward part p (record { reader = q; bank = bank; out = out; read = i; written = at })
-    → Onward part p (record { reader = q′; bank = bank; out = out; read = i; written = at })
-onward-to {part} {p} {bank = bank} {out = out} {i = i} {at = at} e o =
-    subst (λ (x : Reader). Onward part p (record { reader = x; bank = bank; out = out; read = i; written = at })) e o
+    → Onward part p (record { reader = m .reader; bank = bank; out = out; read = m .read; written = m .written })
+onward-reached {part} {p} {bank = bank} {out = out} e o =
+    subst (λ (x : Moved). Onward part p (record { reader = x .reader; bank = bank; out = out; read = x .read; written = x .written })) (sym e) o
 
 -- ---- text that is written at a place
 
@@ -87,7 +88,7 @@ module _ {text out out′ : List ℕ} {at end : ℕ} (w : Wrote lineRoom text ou
 
 -- ---- some bytes more
 
-pub onward-by : {part : List ℕ} {r q : Reader} {bank bank′ out out′ : List ℕ} {i at end : ℕ} (n : Next) (more : ℕ)
+pub onward-by : {part : List ℕ} {r q : Reader} {bank bank′ out out′ : List ℕ} {i at end : ℕ} (n : Left) (more : ℕ)
     → Takes r bank (drop i part) more n → i + more ≤ length part → at + lineRoom ≤ length out
     → q ≡ n .reader → bank′ ≡ n .bank → Wrote lineRoom (n .text) out at end out′
     → Onward part
@@ -130,27 +131,49 @@ begins-is r left e = go (r .stage) refl e
     go Over q t = absurd (clash (sym t))
 
 -- a sample that begins here
-pub onward-sample : {part : List ℕ} (r : Reader) {bank bank′ out out′ : List ℕ} {i at : ℕ} (s : Sample) {t : Told}
+pub onward-sample : {part : List ℕ} (r : Reader) {bank bank′ out out′ : List ℕ} {i at : ℕ} (s : Sample) {t : Led}
     → r .stage ≡ InSamples → r .held ≡ 0 → 6 ≤ length (r .kept) → 6 ≤ length part - i → at + lineRoom ≤ length out → s ≡ sampleOf (drop i part)
-    → Tells (sampled (r .reports) (r .samples) (pushedAt bank 0 s)) out at t bank′ out′
+    → Leads (sampled (r .reports) (r .samples) (pushedAt bank 0 s)) out at t bank′ out′
     → Onward part
     (record { reader = r; bank = bank; out = out; read = i; written = at })
-    (record { reader = readerOf t; bank = bank′; out = out′; read = i + 6; written = t .at })
+    (record { reader = stepOf t .reader; bank = bank′; out = out′; read = i + 6; written = t .at })
 onward-sample {part} r {bank} {i = i} s p q k l room e w =
-    let n : Sample → Next = λ s. sampled (r .reports) (r .samples) (pushedAt bank 0 s) in
+    let n : Sample → Left = λ s. sampled (r .reports) (r .samples) (pushedAt bank 0 s) in
     onward-by (n s) 6 (subst (λ (x : Sample). Takes r bank (drop i part) 6 (n x)) (sym e) (takes-sample r bank (drop i part) p q k (omega (arith, length-drop i part))))
-    (omega arith) room (w .reader) (w .bank) (w .text)
+    (omega arith) room (w .step .reader) (w .step .bank) (w .step .text)
+
+-- bytes that are kept of no sample don't count where a sample begins
+pub onward-fresh : {part : List ℕ} (r : Reader) {bank out : List ℕ} {i at : ℕ}
+    → r .stage ≡ InSamples → r .held ≡ 0 → 6 ≤ length (r .kept) → 6 ≤ length part - i → at + lineRoom ≤ length out
+    → Onward part
+    (record { reader = r; bank = bank; out = out; read = i; written = at })
+    (record { reader = readerAt InSamples (r .reports) (r .samples); bank = bank; out = out; read = i; written = at })
+unfolding wholeFrom
+onward-fresh {part} r {bank} {out} {i} {at} p q k l room =
+    let left : 6 ≤ length (drop i part) = omega (arith, length-drop i part) in
+    let fresh : Reader = readerAt InSamples (r .reports) (r .samples) in
+    record {
+      same = ap (onto i (take at out))
+          (takes-sample fresh bank (drop i part) refl refl (lit≤ tt) left (length out - at) (omega arith)
+          ∙ sym (takes-sample r bank (drop i part) p q k left (length out - at) (omega arith)));
+      long = refl;
+      further = le-refl i;
+      within = omega arith;
+      grown = le-refl at;
+      fits = omega arith;
+      beyond = refl;
+    }
 
 -- any byte
 pub onward-byte : {part : List ℕ} (r : Reader) {bank bank′ out out′ : List ℕ} {i at : ℕ} {s : Step}
-    → i < length part → at + lineRoom ≤ length out → Steps (stepped r bank (getD part i 0)) out at s bank′ out′
+    → i < length part → at + lineRoom ≤ length out → Steps (afterByte r bank (getD part i 0)) out at s bank′ out′
     → Onward part
     (record { reader = r; bank = bank; out = out; read = i; written = at })
     (record { reader = s .reader; bank = bank′; out = out′; read = i + 1; written = s .at })
 onward-byte {part} r {bank} {i = i} l room w =
     let first : getD (drop i part) 0 0 ≡ getD part i 0 = getD-drop i part 0 0 ∙ ap (λ (k : ℕ). getD part k 0) (add-zero i) in
-    onward-by (stepped r bank (getD part i 0)) 1
-    (subst (λ (b : ℕ). Takes r bank (drop i part) 1 (stepped r bank b)) first (takes-byte r bank (drop i part) (omega (arith, length-drop i part))))
+    onward-by (afterByte r bank (getD part i 0)) 1
+    (subst (λ (b : ℕ). Takes r bank (drop i part) 1 (afterByte r bank b)) first (takes-byte r bank (drop i part) (omega (arith, length-drop i part))))
     (omega arith) room (w .reader) (w .bank) (w .text)
 
 -- ---- the end of a call
@@ -191,7 +214,6 @@ module _ {part : List ℕ} {r q : Reader} {bank bank′ out out′ : List ℕ} {
     ends =
         (λ x. record { moved = record { reader = q; read = i; written = sym text-length x }; bank = bank′; out = out-is x })
         ∙ sym (ap (λ (f : Fed). outcome f out) whole-is);
-    within = o .within;
     fits = omega (arith, o .fits, o .long);
   }
 

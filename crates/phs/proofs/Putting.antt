@@ -11,7 +11,8 @@ use mir.Syntax.{w32, w64}
 use mir.Val.{SFits, toZ, ofZ}
 use mir.Facts.{toZ-ofZ, sfits-widen}
 use lib.Seq.{sets}
-use Rattle.text.specs.Put.{Put, Wrote}
+use Rattle.text.specs.declared.Word.{Word}
+use Rattle.text.specs.Put.{Put, Wrote, filled, roomFor}
 use Rattle.phs.specs.Lines.{lineRoom}
 
 pub line-written : {room at r : ℕ} {text before after : List ℕ} → Put room text before at r after → room ≤ lineRoom → at + lineRoom ≤ length before
@@ -25,6 +26,11 @@ line-written {room} {at} {r} {text} {before} {after} p short fits =
 -- the same text, said otherwise
 pub written-as : {room at r : ℕ} {text text′ before after : List ℕ} → text ≡ text′ → Wrote room text before at r after → Wrote room text′ before at r after
 written-as {room} {at} {r} {text} {text′} {before} {after} e w = subst (λ (t : List ℕ). Wrote room t before at r after) e w
+
+-- a form with its words, where the words are known
+pub words-written : (form : List ℕ) {words words′ : List Word} {at r : ℕ} {before after : List ℕ} → words ≡ words′ → Put (roomFor form) (filled form words) before at r after
+    → length form ≤ 25 → at + lineRoom ≤ length before → Wrote lineRoom (filled form words′) before at r after
+words-written form e p short fits = written-as (ap (filled form) e) (line-written p (omega arith) fits)
 
 -- a signed number that is stored is read again
 pub same : {z : ℤ} → SFits w64 z → toZ w64 (ofZ w64 z) ≡ z

@@ -12,26 +12,26 @@ use Rattle.bank.specs.Calls.{pushedAt}
 use Rattle.phs.specs.declared.Stage.the-variants.{InSamples}
 use Rattle.phs.specs.declared.Reader.{Reader}
 use Rattle.phs.specs.Lines.{lineRoom}
-use Rattle.phs.specs.Stream.{Next, keeping, silent, sampled, stepped, Fed, unread, onto, fed}
+use Rattle.phs.specs.Stream.{Left, keeping, wordless, sampled, sampleByte, afterByte, Fed, unread, onto, fed}
 
 pub onto-onto : (i j : ℕ) (t u : List ℕ) (f : Fed) → onto i t (onto j u f) ≡ onto (i + j) (t ++ u) f
 onto-onto i j t u f = λ x. record { reader = f .reader; bank = f .bank; read = sym (add-assoc i j (f .read)) x; text = sym (append-assoc t u (f .text)) x }
 
 -- what comes after `n`, with the room that is left
-abbrev pub following : Next → ℕ → ℕ → List ℕ → Fed
+abbrev pub following : Left → ℕ → ℕ → List ℕ → Fed
 following n more room rest = onto more (n .text) (fed (room - length (n .text)) (n .reader) (n .bank) rest)
 
 -- the bytes l are read by `more` at once, which leave n
-abbrev pub Takes : Reader → List ℕ → List ℕ → ℕ → Next → Type 0
+abbrev pub Takes : Reader → List ℕ → List ℕ → ℕ → Left → Type 0
 Takes r bank l more n = (room : ℕ) → lineRoom ≤ room → fed room r bank l ≡ following n more room (drop more l)
 
 -- ---- one byte
 
-one-taken : (r : Reader) (bank : List ℕ) (b : ℕ) (bs : List ℕ) → Takes r bank (b ∷ bs) 1 (stepped r bank b)
+one-taken : (r : Reader) (bank : List ℕ) (b : ℕ) (bs : List ℕ) → Takes r bank (b ∷ bs) 1 (afterByte r bank b)
 unfolding fed
 one-taken r bank b bs room h = rw (le-ltb room lineRoom h)
 
-pub takes-byte : (r : Reader) (bank l : List ℕ) → 1 ≤ length l → Takes r bank l 1 (stepped r bank (getD l 0 0))
+pub takes-byte : (r : Reader) (bank l : List ℕ) → 1 ≤ length l → Takes r bank l 1 (afterByte r bank (getD l 0 0))
 takes-byte r bank [] l = absurd (omega arith)
 takes-byte r bank (b ∷ bs) l = one-taken r bank b bs
 
@@ -48,11 +48,11 @@ none-left room r bank = refl
 -- ---- six bytes
 
 -- a byte that is kept
-kept-byte : (room : ℕ) (r q : Reader) (bank : List ℕ) (b : ℕ) (bs : List ℕ) → lineRoom ≤ room → stepped r bank b ≡ silent q bank
+kept-byte : (room : ℕ) (r q : Reader) (bank : List ℕ) (b : ℕ) (bs : List ℕ) → lineRoom ≤ room → afterByte r bank b ≡ wordless q bank
     → fed room r bank (b ∷ bs) ≡ onto 1 [] (fed room q bank bs)
 kept-byte room r q bank b bs h e =
     one-taken r bank b bs room h
-    ∙ ap (λ (n : Next). following n 1 room bs) e
+    ∙ ap (λ (n : Left). following n 1 room bs) e
     ∙ ap (λ (k : ℕ). onto 1 [] (fed k q bank bs)) (same room)
   where
     same : (room : ℕ) → room - 0 ≡ room
@@ -75,12 +75,12 @@ module _ (reports samples : ℕ) (bank : List ℕ) where
   abbrev inside : ℕ → List ℕ → Reader
   inside n k = record { stage = InSamples; held = n; kept = k; reports = reports; samples = samples }
 
-  abbrev whole : Sample → Next
+  abbrev whole : Sample → Left
   whole s = sampled reports samples (pushedAt bank 0 s)
 
   six-inside : (k : List ℕ) (a b c d e f : ℕ) (rest : List ℕ) → 6 ≤ length k
       → Takes (inside 0 k) bank (a ∷ b ∷ c ∷ d ∷ e ∷ f ∷ rest) 6 (whole (sampleOf (a ∷ b ∷ c ∷ d ∷ e ∷ f ∷ [])))
-  unfolding stepped keeping
+  unfolding afterByte sampleByte keeping
   six-inside k a b c d e f rest l room h =
       let k1 = set k 0 a in
       let k2 = set k1 1 b in

@@ -5,7 +5,8 @@ use Prim.Native.Nat.{ℕ, _+_}
 use native.Mathlib.Nat.{add-zero}
 use lib.ListN.{getD, drop}
 use lib.Seq.{getD-drop}
-use Rattle.feed.specs.Places.{be16, signed16, sampleOf}
+use Rattle.bits.specs.Bits.{be16, signed16}
+use Rattle.feed.specs.Places.{sampleOf}
 
 -- the sample in the six bytes from `at` on
 pub six-from : (l : List ℕ) (at : ℕ) → sampleOf (drop at l) ≡ record {

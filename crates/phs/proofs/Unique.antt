@@ -1,20 +1,10 @@
 -- The public contracts each admit one outcome: it is the outcome of one equation. Assumes nothing.
-use mathlib.Core.Path.{_≡_, refl, sym, ap, _∙_}
+use mathlib.Core.Path.{_≡_, sym, _∙_}
 use mathlib.Core.List.{List}
 use Prim.Native.Nat.{ℕ}
 use Rattle.phs.specs.declared.Reader.{Reader}
 use Rattle.phs.specs.declared.Moved.{Moved}
-use Rattle.phs.specs.declared.header.Header.{Header}
-use Rattle.phs.specs.declared.header.Header.the-variants.{Refused, Opens}
-use Rattle.phs.specs.Header.{said, unsaid, Heading}
 use Rattle.phs.specs.Stream.{started, Read, Reading, Finishing}
-
-pub unsaid-said : (r : Header) → unsaid (said r) ≡ r
-unsaid-said (Refused number) = refl
-unsaid-said (Opens version nominal rate soc) = refl
-
-pub read-header-unique : (h : List ℕ) (r q : Header) → Heading h r → Heading h q → r ≡ q
-read-header-unique h r q e f = sym (unsaid-said r) ∙ ap unsaid (e ∙ sym f) ∙ unsaid-said q
 
 pub start-unique : (r q : Reader) → r ≡ started → q ≡ started → r ≡ q
 start-unique r q e f = e ∙ sym f

@@ -6,12 +6,12 @@ use lib.ListN.{take, drop}
 use Rattle.feed.specs.Answers.{Said, refused, done, taken, takenWith}
 use Rattle.feed.specs.History.{History, opening, Told, told}
 use Rattle.feed.specs.Places.{sampleOf}
-use Rattle.phs.specs.Header.{headed, opens}
-use Rattle.phs.specs.Header.{Said as HeaderSaid, refused as refusedHeader}
+use Rattle.header.specs.Header.{headed, opens, Said as HeaderSaid, refused as refusedHeader}
 use Rattle.phs.specs.Lines.{headLine, reportLine, lastLine, refusedLine}
 
 -- ---- what one answer comes to
 
+-- whether the answer is a refusal
 abbrev pub isRefusal : Said → Bool
 isRefusal (refused number) = true
 isRefusal done = false
@@ -55,31 +55,35 @@ answers h (a ∷ b ∷ c ∷ d ∷ e ∷ f ∷ rest) =
 
 -- ---- the text
 
--- the counts of report lines and samples taken
+-- the count of report lines
 abbrev pub reportsIn : List Said → ℕ
 reportsIn [] = 0
 reportsIn (a ∷ rest) = reportIn a + reportsIn rest
 
+-- the count of samples taken
 abbrev pub samplesIn : List Said → ℕ
 samplesIn [] = 0
 samplesIn (a ∷ rest) = sampleIn a + samplesIn rest
 
-abbrev pub isRefused : List Said → Bool
-isRefused [] = false
-isRefused (a ∷ rest) = isRefusal a || isRefused rest
+-- whether one of the answers is a refusal: it is the last
+abbrev pub endsRefused : List Said → Bool
+endsRefused [] = false
+endsRefused (a ∷ rest) = isRefusal a || endsRefused rest
 
+-- the lines of the answers, in their order
 abbrev pub linesOf : List Said → List ℕ
 linesOf [] = []
 linesOf (a ∷ rest) = lineOf a ++ linesOf rest
 
 -- last `reports R samples S`; a refusal prints `refused N` in place of the last line
 unfoldable pub printed : List Said → List ℕ
-printed said = linesOf said ++ cond (isRefused said) [] (lastLine (reportsIn said) (samplesIn said))
+printed said = linesOf said ++ cond (endsRefused said) [] (lastLine (reportsIn said) (samplesIn said))
 
 -- a refused header prints only that; else the file is measured as one feed, opened as its header says
 abbrev pub listed : HeaderSaid → List ℕ → List ℕ
 listed (refusedHeader number) samples = refusedLine number
 listed (opens version nominal rate soc) samples = headLine version nominal rate ++ printed (answers (opening nominal rate soc) samples)
 
+-- the listing of a whole file: its header is its first 11 bytes
 unfoldable pub listing : List ℕ → List ℕ
 listing file = listed (headed (take 11 file)) (drop 11 file)

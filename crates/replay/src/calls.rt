@@ -28,20 +28,26 @@ fn lent(script: &[u8], memory: &[u8]) -> usize
     }
 }
 
-// `C`: len.
-pub(crate) fn clear(script: &[u8], memory: &mut [u8]) -> Settled {
+// The calls that settle something: `C`, `O` and `X`.
+pub(crate) fn settle(script: &[u8], memory: &mut [u8]) -> Settled {
     let n = lent(script, memory);
-    bank::clear(&mut memory[0..n])
+    settle_in(script, &mut memory[0..n])
 }
 
-// `O`: len, slot, nominal, rate, SOC.
-pub(crate) fn open(script: &[u8], memory: &mut [u8]) -> Settled {
-    let n = lent(script, memory);
+// `C`: len. `O`: len, slot, nominal, rate, SOC. `X`: len, slot.
+fn settle_in(script: &[u8], bank: &mut [u8]) -> Settled {
+    let letter = byte_at(script, 0);
     let slot = byte_at(script, 3);
-    let nominal = byte_at(script, 4);
-    let rate = byte_at(script, 5);
-    let soc = u32_at(script, 6);
-    bank::open(&mut memory[0..n], slot, nominal, rate, soc)
+    match letter {
+        b'C' => bank::clear(bank),
+        b'X' => bank::close(bank, slot),
+        _ => {
+            let nominal = byte_at(script, 4);
+            let rate = byte_at(script, 5);
+            let soc = u32_at(script, 6);
+            bank::open(bank, slot, nominal, rate, soc)
+        }
+    }
 }
 
 // `P`: len, slot, a, b, c.
@@ -54,13 +60,6 @@ pub(crate) fn push(script: &[u8], memory: &mut [u8]) -> Answer {
         c: i16_at(script, 8),
     };
     bank::push(&mut memory[0..n], slot, sample)
-}
-
-// `X`: len, slot.
-pub(crate) fn close(script: &[u8], memory: &mut [u8]) -> Settled {
-    let n = lent(script, memory);
-    let slot = byte_at(script, 3);
-    bank::close(&mut memory[0..n], slot)
 }
 
 // `S`: at, value. Nothing where the memory has no such byte.
@@ -127,13 +126,13 @@ pub(crate) fn judge(script: &[u8]) -> Judged {
     let device = Device {
         re: i16_at(script, 7),
         im: i16_at(script, 9),
-        frequency: i16_at(script, 11),
+        deviation: i16_at(script, 11),
         rocof: i16_at(script, 13),
     };
     let reference = Reference {
         re: i16_at(script, 15),
         im: i16_at(script, 17),
-        frequency: i32_at(script, 19),
+        deviation: i32_at(script, 19),
         rocof: i32_at(script, 23),
     };
     verdict::judge(class, test, m, device, reference)

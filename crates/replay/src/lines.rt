@@ -19,19 +19,11 @@ fn put(form: &[u8], words: [Word; 11], out: &mut [u8], at: usize) -> usize
 
 // Three words and blanks.
 fn three(a: Word, b: Word, c: Word) -> [Word; 11] {
-    [
-        a,
-        b,
-        c,
-        Word::Blank,
-        Word::Blank,
-        Word::Blank,
-        Word::Blank,
-        Word::Blank,
-        Word::Blank,
-        Word::Blank,
-        Word::Blank,
-    ]
+    let mut words = [Word::Blank; 11];
+    words[0] = a;
+    words[1] = b;
+    words[2] = c;
+    words
 }
 
 // A line with no words.
@@ -42,6 +34,7 @@ fn put_plain(form: &[u8], out: &mut [u8], at: usize) -> usize
     put(form, [Word::Blank; 11], out, at)
 }
 
+// `refused N`
 fn put_refused(n: u8, out: &mut [u8], at: usize) -> usize
     requires { ⌜ at + 1024 ≤ length (now out) ⌝ }
     ensures { λ r. ⌜ r ≤ length (now (out .exit)) ⌝ }
@@ -50,6 +43,7 @@ fn put_refused(n: u8, out: &mut [u8], at: usize) -> usize
     put(b"refused %\n", words, out, at)
 }
 
+// `done` or `refused N`
 pub(crate) fn put_settled(s: Settled, out: &mut [u8], at: usize) -> usize
     requires { ⌜ at + 1024 ≤ length (now out) ⌝ }
     ensures { λ r. ⌜ r ≤ length (now (out .exit)) ⌝ }
@@ -60,6 +54,7 @@ pub(crate) fn put_settled(s: Settled, out: &mut [u8], at: usize) -> usize
     }
 }
 
+// `taken`, `report ..` or `refused N`
 pub(crate) fn put_answer(answer: Answer, out: &mut [u8], at: usize) -> usize
     requires { ⌜ at + 1024 ≤ length (now out) ⌝ }
     ensures { λ r. ⌜ r ≤ length (now (out .exit)) ⌝ }
@@ -71,6 +66,7 @@ pub(crate) fn put_answer(answer: Answer, out: &mut [u8], at: usize) -> usize
     }
 }
 
+// `figures ..` or `refused N`
 pub(crate) fn put_measured(m: Measured, out: &mut [u8], at: usize) -> usize
     requires { ⌜ at + 1024 ≤ length (now out) ⌝ }
     ensures { λ r. ⌜ r ≤ length (now (out .exit)) ⌝ }
@@ -81,6 +77,7 @@ pub(crate) fn put_measured(m: Measured, out: &mut [u8], at: usize) -> usize
     }
 }
 
+// `verdict T F R`, `left out` or `refused N`
 pub(crate) fn put_judged(j: Judged, out: &mut [u8], at: usize) -> usize
     requires { ⌜ at + 1024 ≤ length (now out) ⌝ }
     ensures { λ r. ⌜ r ≤ length (now (out .exit)) ⌝ }
@@ -88,7 +85,7 @@ pub(crate) fn put_judged(j: Judged, out: &mut [u8], at: usize) -> usize
     match j {
         Judged::Refused(n) => put_refused(n, out, at),
         Judged::LeftOut => put_plain(b"left out\n", out, at),
-        Judged::Told(v) => {
+        Judged::Verdicts(v) => {
             let words = three(within(v.tve), within(v.fe), within(v.rfe));
             put(b"verdict % % %\n", words, out, at)
         }
@@ -123,10 +120,12 @@ fn bits(x: f64) -> Word {
     }
 }
 
+// A 32-bit whole number.
 fn whole(z: i32) -> Word {
     Word::Whole(z as i64)
 }
 
+// The words of a report: SOC, frame, re, im, d1, d2, mark, and the four floats' bits.
 fn report_words(r: Report) -> [Word; 11] {
     [
         Word::Number(r.soc as u64),
@@ -143,6 +142,7 @@ fn report_words(r: Report) -> [Word; 11] {
     ]
 }
 
+// The same without SOC and frame.
 fn figures_words(f: Figures) -> [Word; 11] {
     [
         Word::Whole(f.re),

@@ -21,6 +21,8 @@ enum Next {
     More,
     // the script's end
     End,
+    // a read has failed, and it is said
+    Failed,
     // a record that is cut short, or whose byte is unknown
     Bad,
     // nothing: the text can't be written
@@ -57,10 +59,8 @@ fn run(script: &[u8], memory: &mut [u8], out: &mut [u8], at: usize) -> usize
 {
     let letter = byte_at(script, 0);
     match letter {
-        b'C' => lines::put_settled(calls::clear(script, memory), out, at),
-        b'O' => lines::put_settled(calls::open(script, memory), out, at),
+        b'C' | b'O' | b'X' => lines::put_settled(calls::settle(script, memory), out, at),
         b'P' => lines::put_answer(calls::push(script, memory), out, at),
-        b'X' => lines::put_settled(calls::close(script, memory), out, at),
         b'S' => {
             calls::set(script, memory);
             at
@@ -68,6 +68,7 @@ fn run(script: &[u8], memory: &mut [u8], out: &mut [u8], at: usize) -> usize
         b'D' => calls::show(script, memory, out, at),
         b'W' => lines::put_measured(calls::measure(script), out, at),
         b'J' => lines::put_judged(calls::judge(script), out, at),
+        // not reached: its length is 0
         _ => at,
     }
 }
@@ -130,7 +131,7 @@ fn read_on(memory: &mut [u8], input: &mut [u8], held: usize, out: &mut [u8], tex
     let got = libc::read(STDIN_FILENO, &mut input[held..]);
     if got < 0 {
         os::fail(b"replay: standard input");
-        let next = Next::End;
+        let next = Next::Failed;
         return Turn { held, text, next };
     }
     if got == 0 {
@@ -138,6 +139,14 @@ fn read_on(memory: &mut [u8], input: &mut [u8], held: usize, out: &mut [u8], tex
         return Turn { held, text, next };
     }
     let end = held + io::count(got, &input[held..]);
+    run_held(memory, input, end, out, text)
+}
+
+// Runs the whole records of the bytes up to `end` and holds the rest.
+fn run_held(memory: &mut [u8], input: &mut [u8], end: usize, out: &mut [u8], text: usize) -> Turn
+    requires { ⌜ (end ≤ length (now input)) × (1024 ≤ length (now out)) × (text ≤ length (now out)) ⌝ }
+    ensures { λ r. ⌜ (r .held ≤ length (now (input .exit))) × (r .text ≤ length (now (out .exit))) ⌝ }
+{
     let ran = run_all(&input[0..end], memory, out, text);
     let at = ran.at;
     let text = ran.text;
@@ -161,7 +170,7 @@ fn finish(text: &[u8], next: Next) {
     }
 }
 
-// A proved loop has to end, and nothing says that a script does: this follows more reads than a run can make.
+// A loop has to end, and nothing says that a script does: this follows more reads than a run can make.
 fn give_up() {
     io::write_all(STDERR_FILENO, b"replay: standard input: too many reads\n");
 }
@@ -187,6 +196,7 @@ fn replay(memory: &mut [u8], input: &mut [u8], out: &mut [u8])
     give_up();
 }
 
+// The program: memory of 8192 zeros, and the script.
 fn main() {
     let mut memory = [0u8; 8192];
     let mut input = io::large_buffer();

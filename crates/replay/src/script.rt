@@ -1,4 +1,8 @@
 // A script's records: how long each is, and its numbers, all big-endian.
+use bits::be16;
+use bits::be32;
+use bits::signed16;
+use bits::signed32;
 ghost use Prim.Native.Nat.{_<_};
 
 // The byte at a place; 0 past the end.
@@ -6,40 +10,37 @@ pub(crate) fn byte_at(script: &[u8], i: usize) -> u8 {
     if i < script.len() { script[i] } else { 0 }
 }
 
+// Sixteen bits, big-endian.
 pub(crate) fn u16_at(script: &[u8], i: usize) -> u16
     requires { ⌜ i < 65536 ⌝ }
 {
-    let high = byte_at(script, i) as u16;
-    let low = byte_at(script, i + 1) as u16;
-    256 * high + low
+    be16(byte_at(script, i), byte_at(script, i + 1))
 }
 
+// Thirty-two bits, big-endian.
 pub(crate) fn u32_at(script: &[u8], i: usize) -> u32
     requires { ⌜ i < 65530 ⌝ }
 {
-    let high = u16_at(script, i) as u32;
-    let low = u16_at(script, i + 2) as u32;
-    65536 * high + low
+    be32(
+        byte_at(script, i),
+        byte_at(script, i + 1),
+        byte_at(script, i + 2),
+        byte_at(script, i + 3),
+    )
 }
 
 // Sixteen bits read as a signed number.
 pub(crate) fn i16_at(script: &[u8], i: usize) -> i16
     requires { ⌜ i < 65536 ⌝ }
 {
-    let n = u16_at(script, i);
-    if n < 32768 { n as i16 } else { !(!n as i16) }
+    signed16(u16_at(script, i))
 }
 
 // Thirty-two bits read as a signed number.
 pub(crate) fn i32_at(script: &[u8], i: usize) -> i32
     requires { ⌜ i < 65530 ⌝ }
 {
-    let n = u32_at(script, i);
-    if n < 2147483648 {
-        n as i32
-    } else {
-        !(!n as i32)
-    }
+    signed32(u32_at(script, i))
 }
 
 // How many bytes the record has that a script begins with; 0 where its byte is unknown.

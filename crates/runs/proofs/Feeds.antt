@@ -11,9 +11,9 @@ use Rattle.ints.proofs.Cases.{when-true}
 use Rattle.model.specs.Filter.{windowed, noSample}
 use Rattle.model.specs.Report.{figuresAt, threePhase}
 use Rattle.model.proofs.Same.{figures-same}
-use Rattle.feed.specs.Tags.{servedNominal, nominalOf}
-use Rattle.feed.specs.History.{History, nextNumber, isDue, reportAt, answered}
-use Rattle.runs.specs.Runs.{refused, saidFigures, sampleAt, unequal, offCentre, measured}
+use Rattle.sampling.specs.Tags.{servedNominal, nominalOf}
+use Rattle.feed.specs.History.{History, centreOf, isDue, reportAt, answered}
+use Rattle.runs.specs.Runs.{refused, saidFigures, sampleAt, differ, noCentre, measured}
 use Rattle.runs.specs.Feeds.{Holding, SameMeasurement}
 
 and-true : (p q : Bool) → (p && q) ≡ true → p ≡ true
@@ -25,46 +25,56 @@ pub due-held : (h : History) → isDue h ≡ true → 31 ≤ length (h .samples)
 unfolding isDue
 due-held h due = leb-true 31 (length (h .samples)) (and-true _ _ due)
 
+-- n samples from number `first` on, their centre 15 before the last: sample j around it, among them and in the runs
+among-them : (first n j : ℕ) → 31 ≤ n → first + n - 1 - 15 + j - 15 - first ≡ n - 31 + j
+among-them first n j l = omega arith
+
+in-the-runs : (first n k j : ℕ) → 31 ≤ n → k + (n - 31 + j) ≡ k + (first + n - 1 - 15 - first) + j - 15
+in-the-runs first n k j l = omega arith
+
 module _ (h : History) (a b c : List ℤ) (k : ℕ) (served : servedNominal (h .nominal) ≡ true) (due : isDue h ≡ true) (runs : Holding h a b c k) where
   enough : 31 ≤ length (h .samples)
   enough = due-held h due
 
-  -- the sample j places after the first of the 31
-  sample : (j : ℕ) → j < 31 → windowed (h .samples) (h .first) (nextNumber h - 16 + j - 15) ≡ sampleAt a b c (k + length (h .samples) - 16 + j - 15)
-  sample j l =
-      let p : nextNumber h - 16 + j - 15 - h .first ≡ length (h .samples) - 31 + j = omega (arith, enough) in
-      let q : k + (length (h .samples) - 31 + j) ≡ k + length (h .samples) - 16 + j - 15 = omega (arith, enough) in
-      ap (λ (m : ℕ). getD (h .samples) m noSample) p ∙ sym (runs .samples (length (h .samples) - 31 + j) (omega (arith, enough))) ∙ ap (sampleAt a b c) q
+  -- the centre in the runs
+  abbrev at : ℕ
+  at = k + (centreOf h - h .first)
 
-  turn : (m : ℕ) → 31 ≤ m → (h .first + m - 16) % 15 ≡ (k + m - 16) % 15
-  turn m l =
-      let p : h .first + m - 16 ≡ h .first + (m - 16) = omega arith in
-      let q : k + m - 16 ≡ k + (m - 16) = omega arith in
-      ap (λ (i : ℕ). i % 15) p ∙ shift (h .first) k (m - 16) (sym (runs .index)) ∙ ap (λ (i : ℕ). i % 15) (sym q)
+  -- the sample j places after the first of the 31
+  sample : (j : ℕ) → j < 31 → windowed (h .samples) (h .first) (centreOf h + j - 15) ≡ sampleAt a b c (at + j - 15)
+  sample j l =
+      ap (λ (m : ℕ). getD (h .samples) m noSample) (among-them (h .first) (length (h .samples)) j enough)
+      ∙ sym (runs .samples (length (h .samples) - 31 + j) (omega (arith, enough)))
+      ∙ ap (sampleAt a b c) (in-the-runs (h .first) (length (h .samples)) k j enough)
+
+  turn : centreOf h % 15 ≡ at % 15
+  turn =
+      let p : centreOf h ≡ h .first + (centreOf h - h .first) = omega (arith, enough) in
+      ap (λ (i : ℕ). i % 15) p ∙ shift (h .first) k (centreOf h - h .first) (sym (runs .index))
     where
       shift : (i j d : ℕ) → i % 15 ≡ j % 15 → (i + d) % 15 ≡ (j + d) % 15
       shift i j d e = omega arith
 
-  around : figuresAt threePhase (nominalOf (h .nominal)) (windowed (h .samples) (h .first)) (nextNumber h - 16) ≡ figuresAt threePhase (nominalOf (h .nominal)) (sampleAt a b c) (k + length (h .samples) - 16)
+  around : figuresAt threePhase (nominalOf (h .nominal)) (windowed (h .samples) (h .first)) (centreOf h) ≡ figuresAt threePhase (nominalOf (h .nominal)) (sampleAt a b c) at
   around =
-      figures-same (windowed (h .samples) (h .first)) (sampleAt a b c) (nextNumber h - 16) (k + length (h .samples) - 16) (omega (arith, enough)) (omega (arith, enough)) (turn (length (h .samples)) enough) sample threePhase (nominalOf (h .nominal))
+      figures-same (windowed (h .samples) (h .first)) (sampleAt a b c) (centreOf h) at (omega (arith, enough)) (omega (arith, enough)) turn sample threePhase
+      (nominalOf (h .nominal))
 
-  alike : unequal a b c ≡ false
-  unfolding unequal
-  alike = simp (eq-eqb (length a) (length b) (runs .a-length ∙ sym (runs .b-length)), eq-eqb (length b) (length c) (runs .b-length ∙ sym (runs .c-length)))
+  alike : differ a b c .due ≡ false
+  alike = simp (eq-eqb (length a) (length b) (sym (runs .b-length)), eq-eqb (length b) (length c) (runs .b-length ∙ sym (runs .c-length)))
 
-  centred : offCentre (length a) (k + length (h .samples) - 16) ≡ false
-  unfolding offCentre
-  centred = simp (le-ltb (k + length (h .samples) - 16) 15 (omega (arith, enough)), le-ltb (length a) (k + length (h .samples) - 16 + 16) (omega (arith, enough, runs .a-length)))
+  centred : noCentre a at .due ≡ false
+  centred =
+      simp (le-ltb at 15 (omega (arith, enough)), le-ltb (length a - (at + 1)) 15 (omega (arith, enough, runs .room)))
 
-  answers : measured a b c (k + length (h .samples) - 16) (h .nominal) ≡ saidFigures (figuresAt threePhase (nominalOf (h .nominal)) (sampleAt a b c) (k + length (h .samples) - 16))
+  answers : measured a b c at (h .nominal) ≡ saidFigures (figuresAt threePhase (nominalOf (h .nominal)) (sampleAt a b c) at)
   unfolding measured
-  answers = λ i. cond (not (served i)) (refused 6) (cond (alike i) (refused 16) (cond (centred i) (refused 17) (saidFigures (figuresAt threePhase (nominalOf (h .nominal)) (sampleAt a b c) (k + length (h .samples) - 16)))))
+  answers = λ i. cond (not (served i)) (refused 6) (cond (alike i) (refused 16) (cond (centred i) (refused 17) (saidFigures (figuresAt threePhase (nominalOf (h .nominal)) (sampleAt a b c) at))))
 
   pub same-measurement : SameMeasurement h a b c k
   unfolding answered reportAt
   same-measurement = record {
-    figures = figuresAt threePhase (nominalOf (h .nominal)) (windowed (h .samples) (h .first)) (nextNumber h - 16);
+    figures = figuresAt threePhase (nominalOf (h .nominal)) (windowed (h .samples) (h .first)) (centreOf h);
     of-the-feed = when-true (isDue h) _ _ due;
     of-the-run = answers ∙ ap saidFigures (sym around);
   }

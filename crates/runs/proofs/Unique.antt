@@ -5,7 +5,7 @@ use Prim.Native.Nat.{ℕ}
 use lib.IntN.{ℤ}
 use Rattle.runs.specs.declared.Measured.{Measured}
 use Rattle.runs.specs.declared.Measured.the-variants.{Refused, Given}
-use Rattle.runs.specs.Runs.{Said, refused, figures, said, Measuring}
+use Rattle.runs.specs.Runs.{Said, refused, figures, said, RunMeasuring}
 
 abbrev pub unsaid : Said → Measured
 unsaid (refused number) = Refused number
@@ -16,5 +16,5 @@ unsaid-said : (r : Measured) → unsaid (said r) ≡ r
 unsaid-said (Refused number) = refl
 unsaid-said (Given f) = refl
 
-pub measure-unique : (a b c : List ℤ) (centre nominal : ℕ) (r q : Measured) → Measuring a b c centre nominal r → Measuring a b c centre nominal q → r ≡ q
+pub measure-unique : (a b c : List ℤ) (centre nominal : ℕ) (r q : Measured) → RunMeasuring a b c centre nominal r → RunMeasuring a b c centre nominal q → r ≡ q
 measure-unique a b c centre nominal r q x y = sym (unsaid-said r) ∙ ap unsaid (x ∙ sym y) ∙ unsaid-said q

@@ -9,11 +9,11 @@ use lib.ListN.{length, getD, length-append, List·getD-append}
 use lib.Seq.{getD-at}
 use native.Mathlib.Numerals.{add-one}
 use Rattle.model.specs.declared.filter.Sample.{Sample}
-use Rattle.model.specs.declared.sampling.Nominal.{Nominal}
+use Rattle.sampling.specs.declared.Nominal.{Nominal}
 use Rattle.model.specs.Filter.{windowed, noSample}
 use Rattle.model.specs.Report.{figuresAt, threePhase}
 use Rattle.model.proofs.Same.{figures-same}
-use Rattle.runs.specs.Runs.{samplesFrom}
+use Rattle.runs.specs.Inside.{samplesFrom}
 
 module _ (x : ℕ → Sample) (first : ℕ) where
   pub samples-length : (n : ℕ) → length (samplesFrom x first n) ≡ n

@@ -1,8 +1,8 @@
 -- Document 01, "The report": the whole-run measurement takes three lent runs, a centre and a nominal frequency.
 use mathlib.Core.Path.{_≡_}
-use mathlib.Core.Bool.{Bool, not, _||_}
-use mathlib.Core.List.{List, [], _∷_, _++_}
-use Prim.Native.Nat.{ℕ, zero, suc, _+_}
+use mathlib.Core.Bool.{not, _||_}
+use mathlib.Core.List.{List, [], _∷_}
+use Prim.Native.Nat.{ℕ, _+_, _-_}
 use lib.Dec.{eqb, ltb}
 use lib.ListN.{length, getD}
 use lib.IntN.{ℤ, pos}
@@ -11,7 +11,7 @@ use Rattle.model.specs.declared.filter.Sample.{Sample}
 use Rattle.model.specs.declared.report.Figures.{Figures}
 use Rattle.model.specs.Report.{figuresAt, threePhase}
 use Rattle.refusals.specs.Refusals.{Refusal, unlessRefused}
-use Rattle.feed.specs.Tags.{noNominal, nominalOf}
+use Rattle.sampling.specs.Tags.{noNominal, nominalOf}
 use Rattle.runs.specs.declared.Measured.{Measured}
 use Rattle.runs.specs.declared.Measured.the-variants.{Refused, Given}
 
@@ -19,42 +19,31 @@ use Rattle.runs.specs.declared.Measured.the-variants.{Refused, Given}
 abbrev pub sampleAt : List ℤ → List ℤ → List ℤ → ℕ → Sample
 sampleAt a b c n = record { a = getD a n (pos 0); b = getD b n (pos 0); c = getD c n (pos 0) }
 
--- Not part of any promise: the n samples from an index on
-unfoldable pub samplesFrom : (ℕ → Sample) → ℕ → ℕ → List Sample
-samplesFrom x first zero = []
-samplesFrom x first (suc n) = samplesFrom x first n ++ (x (first + n) ∷ [])
-
--- the three runs differ in length
-unfoldable pub unequal : List ℤ → List ℤ → List ℤ → Bool
-unequal a b c = not (eqb (length a) (length b)) || not (eqb (length b) (length c))
-
--- centre has fewer than 15 samples before or after it, in runs of so many
-unfoldable pub offCentre : ℕ → ℕ → Bool
-offCentre samples centre = ltb centre 15 || ltb samples (centre + 16)
-
 -- what document 01 says of an answer: the number of a refusal, or a report without a tag
 pub data Said : Type 0 where
   refused : (number : ℕ) → Said
   figures : (re im d1 d2 : ℤ) (mark : ℕ) (rePeak imPeak deviation rocof : Float) → Said
 
+-- the report without a tag, value by value
 abbrev pub saidFigures : Figures → Said
 saidFigures f = figures (f .re) (f .im) (f .d1) (f .d2) (f .mark) (f .«re_peak») (f .«im_peak») (f .deviation) (f .rocof)
 
+-- what an answer says, case by case
 abbrev pub said : Measured → Said
 said (Refused number) = refused number
 said (Given f) = saidFigures f
 
 -- 16: the three runs differ in length
-abbrev pub unequalRuns : List ℤ → List ℤ → List ℤ → Refusal
-unequalRuns a b c = record { number = 16; due = unequal a b c }
+abbrev pub differ : List ℤ → List ℤ → List ℤ → Refusal
+differ a b c = record { number = 16; due = not (eqb (length a) (length b)) || not (eqb (length b) (length c)) }
 
 -- 17: centre has fewer than 15 samples before or after it
 abbrev pub noCentre : List ℤ → ℕ → Refusal
-noCentre a centre = record { number = 17; due = offCentre (length a) centre }
+noCentre a centre = record { number = 17; due = ltb centre 15 || ltb (length a - (centre + 1)) 15 }
 
 -- whole run 6, 16, 17
 abbrev pub runRefusals : List ℤ → List ℤ → List ℤ → ℕ → ℕ → List Refusal
-runRefusals a b c centre nominal = noNominal nominal ∷ unequalRuns a b c ∷ noCentre a centre ∷ []
+runRefusals a b c centre nominal = noNominal nominal ∷ differ a b c ∷ noCentre a centre ∷ []
 
 -- it answers the report without a tag
 unfoldable pub measured : List ℤ → List ℤ → List ℤ → ℕ → ℕ → Said
@@ -63,5 +52,5 @@ measured a b c centre nominal =
     (saidFigures (figuresAt threePhase (nominalOf nominal) (sampleAt a b c) centre))
 
 -- what `measure` promises
-abbrev pub Measuring : List ℤ → List ℤ → List ℤ → ℕ → ℕ → Measured → Type 0
-Measuring a b c centre nominal r = said r ≡ measured a b c centre nominal
+abbrev pub RunMeasuring : List ℤ → List ℤ → List ℤ → ℕ → ℕ → Measured → Type 0
+RunMeasuring a b c centre nominal r = said r ≡ measured a b c centre nominal

@@ -4,7 +4,8 @@ use model::Sample;
 ghost use mathlib.Core.Path.{_≡_};
 ghost use Prim.Native.Nat.{_+_, _≤_};
 ghost use lib.ListN.{length};
-ghost use Rattle.runs.specs.Runs.{sampleAt, samplesFrom, unequal, offCentre, Measuring};
+ghost use Rattle.runs.specs.Runs.{sampleAt, differ, noCentre, RunMeasuring};
+ghost use Rattle.runs.specs.Inside.{samplesFrom};
 
 // The report without a tag, or a refusal.
 pub enum Measured {
@@ -14,23 +15,20 @@ pub enum Measured {
 
 // Whether the three runs differ in length.
 fn are_unequal(a: &[i16], b: &[i16], c: &[i16]) -> bool
-    ensures { λ r. ⌜ r ≡ unequal (now (a .entry)) (now (b .entry)) (now (c .entry)) ⌝ }
+    ensures { λ r. ⌜ r ≡ differ (now (a .entry)) (now (b .entry)) (now (c .entry)) .due ⌝ }
 {
     (a.len() != b.len()) | (b.len() != c.len())
 }
 
 // Whether the centre has fewer than 15 samples before or after it in a run.
 fn is_off_centre(a: &[i16], centre: usize) -> bool
-    ensures { λ r. ⌜ r ≡ offCentre (length (now (a .entry))) centre ⌝ }
+    ensures { λ r. ⌜ r ≡ noCentre (now (a .entry)) centre .due ⌝ }
 {
     let n = a.len();
-    if centre < 15 {
+    if centre >= n {
         return true;
     }
-    if n < 16 {
-        return true;
-    }
-    n - 16 < centre
+    (centre < 15) | (n - centre - 1 < 15)
 }
 
 // The 31 samples of three runs from a place on.
@@ -53,9 +51,9 @@ fn window_from(a: &[i16], b: &[i16], c: &[i16], first: usize) -> [Sample; 31]
 
 // The figures at a centre of three runs, the first sample being index 0; refused 6, 16, 17.
 pub fn measure(a: &[i16], b: &[i16], c: &[i16], centre: usize, nominal: u8) -> Measured
-    ensures { λ r. ⌜ Measuring (now (a .entry)) (now (b .entry)) (now (c .entry)) centre nominal r ⌝ }
+    ensures { λ r. ⌜ RunMeasuring (now (a .entry)) (now (b .entry)) (now (c .entry)) centre nominal r ⌝ }
 {
-    let served = feed::served_nominal(nominal);
+    let served = sampling::served_nominal(nominal);
     let differ = are_unequal(a, b, c);
     let off = is_off_centre(a, centre);
     if !served {
@@ -69,6 +67,6 @@ pub fn measure(a: &[i16], b: &[i16], c: &[i16], centre: usize, nominal: u8) -> M
     }
     let first = centre - 15;
     let window = window_from(a, b, c, first);
-    let at = feed::nominal_of(nominal);
-    Measured::Given(model::measure(window, first, at))
+    let frequency = sampling::nominal_of(nominal);
+    Measured::Given(model::measure(window, first, frequency))
 }

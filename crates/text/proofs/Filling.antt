@@ -10,13 +10,13 @@ use borrow.Author.Tests.{ne-eqb}
 use lib.ListN.{length, drop, set, getD, length-append, drop-of-length-le}
 use lib.Seq.{sets, drop-cons, length-sets}
 use Rattle.text.specs.declared.Word.{Word}
-use Rattle.text.specs.Put.{Wrote, spelt, filled, longest}
+use Rattle.text.specs.Put.{Wrote, spelt, filled, roomFor}
 use Rattle.text.proofs.Sets.{sets-append}
 
 pub record Filling (form : List ℕ) (words : List Word) (before : List ℕ) (at : ℕ) (now : List ℕ) (i j k : ℕ) : Type 0 where
   pub in-form : j ≤ length form
   pub in-words : k ≤ 11
-  pub room : i + (length form - j) + 21 * (11 - k) ≤ at + longest form
+  pub room : i + (length form - j) + 21 * (11 - k) ≤ at + roomFor form
   pub same-length : length now ≡ length before
   pub ends : i + length (filled (drop j form) (drop k words)) ≡ at + length (filled form words)
   pub bytes : sets now i (filled (drop j form) (drop k words)) ≡ sets before at (filled form words)
@@ -76,7 +76,7 @@ module _ {form : List ℕ} {words : List Word} {before : List ℕ} {at : ℕ} {n
       (le-refl k) (f .in-words) (omega arith) (omega arith) refl
 
 -- at the form's end
-pub done : {form : List ℕ} {words : List Word} {before : List ℕ} {at : ℕ} {now : List ℕ} {i j k : ℕ} → Filling form words before at now i j k → length form ≤ j → Wrote (longest form) (filled form words) before at i now
+pub done : {form : List ℕ} {words : List Word} {before : List ℕ} {at : ℕ} {now : List ℕ} {i j k : ℕ} → Filling form words before at now i j k → length form ≤ j → Wrote (roomFor form) (filled form words) before at i now
 done {form} {words} {before} {at} {now} {i} {j} {k} f h =
     let e : drop j form ≡ [] = drop-of-length-le form h in
     let z : length (filled (drop j form) (drop k words)) ≡ 0 = ap (λ (l : List ℕ). length (filled l (drop k words))) e in

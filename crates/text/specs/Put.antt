@@ -23,20 +23,20 @@ filled [] words = []
 filled (b ∷ form) [] = cond (eqb b 37) (filled form []) (b ∷ filled form [])
 filled (b ∷ form) (w ∷ words) = cond (eqb b 37) (spelt w ++ filled form words) (b ∷ filled form (w ∷ words))
 
--- as long as a text of this form can be: no word takes more than 21 bytes, and there are 11
-abbrev pub longest : List ℕ → ℕ
-longest form = length form + 231
+-- room enough for any text of this form: there are 11 words, and none takes more than 21 bytes
+abbrev pub roomFor : List ℕ → ℕ
+roomFor form = length form + 231
 
 -- the text stands from `at` on, and the answer is its end; where fewer than `room` bytes are left there, nothing changes and the answer is `at`
 abbrev pub placed : ℕ → List ℕ → List ℕ → ℕ → ℕ × List ℕ
 placed room text before at = cond (leb (at + room) (length before)) (at + length text, sets before at text) (at, before)
 
--- the answer r and the bytes `after` of a call on the bytes `before`
+-- what `put` and `put_hex` promise of the answer r and of the bytes `after`; `short` is for their callers: the text takes no more than its room
 pub record Put (room : ℕ) (text before : List ℕ) (at r : ℕ) (after : List ℕ) : Type 0 where
   pub outcome : _≡_ {A = ℕ × List ℕ} (r, after) (placed room text before at)
   pub short : r ≤ at + room
 
--- inside the crate, where there is room: the text stands from `at` on and ends at r
+-- where there is room: the text stands from `at` on, ends at r, and is no longer than `room`
 pub record Wrote (room : ℕ) (text before : List ℕ) (at r : ℕ) (after : List ℕ) : Type 0 where
   pub ends : r ≡ at + length text
   pub bytes : after ≡ sets before at text

@@ -19,7 +19,7 @@ unfoldable pub decimalUpTo : ℕ → ℕ → List ℕ
 decimalUpTo zero n = []
 decimalUpTo (suc most) n = cond (ltb n 10) [] (decimalUpTo most (n / 10)) ++ (glyph (n % 10) ∷ [])
 
--- n in decimal: 0 is `0`, and no other number starts with a zero
+-- n in decimal: 0 is `0`, and no other number starts with a zero. n + 1 digits are enough: `decimal-is` says so
 unfoldable pub decimal : ℕ → List ℕ
 decimal n = decimalUpTo (suc n) n
 

@@ -6,7 +6,7 @@ ghost use Prim.Native.Nat.{_+_, _*_, _≤_};
 ghost use lib.Dec.{leb};
 ghost use lib.ListN.{length};
 ghost use Rattle.text.specs.Text.{hexBytes};
-ghost use Rattle.text.specs.Put.{Put, Wrote, spelt, filled, longest};
+ghost use Rattle.text.specs.Put.{Put, Wrote, spelt, filled, roomFor};
 
 // What stands for a `%` of a line's form.
 pub enum Word {
@@ -20,10 +20,10 @@ pub enum Word {
     Blank,
 }
 
-// Puts the form into the bytes from `at` on, with a word for each `%`, and answers where the text ends. Where fewer
-// bytes are left than the longest text of this form has, it changes nothing and answers `at`.
+// Puts the form into the bytes from `at` on, with a word for each `%`, and answers where the text ends. Where fewer bytes are
+// left than the form's length and 231 more (11 words of 21), it changes nothing and answers `at`.
 pub fn put(form: &[u8], words: [Word; 11], out: &mut [u8], at: usize) -> usize
-    ensures { λ r. ⌜ Put (longest (now (form .entry))) (filled (now (form .entry)) words) (now (out .entry)) at r (now (out .exit)) ⌝ }
+    ensures { λ r. ⌜ Put (roomFor (now (form .entry))) (filled (now (form .entry)) words) (now (out .entry)) at r (now (out .exit)) ⌝ }
 {
     if has_room(out.len(), at, form.len() + 231) {
         fill(form, words, out, at)
@@ -52,8 +52,8 @@ fn has_room(len: usize, at: usize, room: usize) -> bool
 
 // The form with its words, where there is room.
 fn fill(form: &[u8], words: [Word; 11], out: &mut [u8], at: usize) -> usize
-    requires { ⌜ at + longest (now form) ≤ length (now out) ⌝ }
-    ensures { λ r. ⌜ Wrote (longest (now (form .entry))) (filled (now (form .entry)) words) (now (out .entry)) at r (now (out .exit)) ⌝ }
+    requires { ⌜ at + roomFor (now form) ≤ length (now out) ⌝ }
+    ensures { λ r. ⌜ Wrote (roomFor (now (form .entry))) (filled (now (form .entry)) words) (now (out .entry)) at r (now (out .exit)) ⌝ }
 {
     let mut i = at;
     let mut j = 0;

@@ -3,10 +3,10 @@ ghost use mathlib.Core.Path.{_≡_};
 ghost use Prim.Native.Nat.{_+_, _≤_, _<_};
 ghost use lib.ListN.{length};
 ghost use lib.Seq.{sets};
-ghost use Rattle.text.specs.Text.{digits, decimal, signed, hex16};
-ghost use Rattle.text.specs.Text.{glyph as Text·glyph};
+ghost use Rattle.text.specs.Text.{digits, decimal, signed, hex16, glyph as Text·glyph};
 ghost use Rattle.text.specs.Put.{Wrote};
 
+// A digit: `0` to `9`, then `a` to `f`.
 fn glyph(d: u64) -> u8
     requires { ⌜ d < 16 ⌝ }
     ensures { λ r. ⌜ r ≡ Text·glyph d ⌝ }
@@ -44,6 +44,7 @@ fn places(n: u64) -> usize
     if n < power { 19 } else { 20 }
 }
 
+// A count, in decimal.
 pub(crate) fn put_number(n: u64, out: &mut [u8], at: usize) -> usize
     requires { ⌜ at + 20 ≤ length (now out) ⌝ }
     ensures { λ r. ⌜ Wrote 20 (decimal n) (now (out .entry)) at r (now (out .exit)) ⌝ }
@@ -53,6 +54,7 @@ pub(crate) fn put_number(n: u64, out: &mut [u8], at: usize) -> usize
     at + k
 }
 
+// A whole number, in decimal.
 pub(crate) fn put_whole(z: i64, out: &mut [u8], at: usize) -> usize
     requires { ⌜ at + 21 ≤ length (now out) ⌝ }
     ensures { λ r. ⌜ Wrote 21 (signed z) (now (out .entry)) at r (now (out .exit)) ⌝ }
@@ -66,6 +68,7 @@ pub(crate) fn put_whole(z: i64, out: &mut [u8], at: usize) -> usize
     }
 }
 
+// 16 hexadecimal digits.
 pub(crate) fn put_bits(n: u64, out: &mut [u8], at: usize) -> usize
     requires { ⌜ at + 16 ≤ length (now out) ⌝ }
     ensures { λ r. ⌜ Wrote 16 (hex16 n) (now (out .entry)) at r (now (out .exit)) ⌝ }

@@ -7,7 +7,8 @@ use lib.IntN.{ℤ, natAbs, _-ℤ_}
 use mir.Syntax.{w16}
 use mir.Val.{SFits}
 use Rattle.ints.proofs.Size.{size-minus}
-use Rattle.verdict.specs.Errors.{squares, errorsOf, Small}
+use Rattle.verdict.specs.Errors.{squares, errorsOf}
+use Rattle.verdict.specs.Inside.{Small}
 use Rattle.verdict.specs.declared.errors.Device.{Device}
 use Rattle.verdict.specs.declared.errors.Reference.{Reference}
 
@@ -21,9 +22,11 @@ difference-within x y f g = le-trans (size-minus x y) (add-le-add (natAbs-le x (
 pub errors-small : (d : Device) (q : Reference) → SFits w16 (d .re) → SFits w16 (d .im) → SFits w16 (q .re) → SFits w16 (q .im) → Small (errorsOf d q)
 unfolding errorsOf
 errors-small d q dr di qr qi =
-    let v : squares (d .re -ℤ q .re) (d .im -ℤ q .im) ≤ 65536 * 65536 + 65536 * 65536 = squares-within 65536 (d .re -ℤ q .re) (d .im -ℤ q .im) (difference-within (d .re) (q .re) dr qr) (difference-within (d .im) (q .im) di qi) in
-    let m : squares (q .re) (q .im) ≤ 32768 * 32768 + 32768 * 32768 = squares-within 32768 (q .re) (q .im) (natAbs-le (q .re) (qr .sfits)) (natAbs-le (q .im) (qi .sfits)) in
-    record { vector-in = le-trans v (omega arith); magnitude-in = le-trans m (omega arith) }
+    let v : squares (d .re -ℤ q .re) (d .im -ℤ q .im) ≤ 65536 * 65536 + 65536 * 65536 =
+    squares-within 65536 (d .re -ℤ q .re) (d .im -ℤ q .im) (difference-within (d .re) (q .re) dr qr) (difference-within (d .im) (q .im) di qi) in
+    let m : squares (q .re) (q .im) ≤ 32768 * 32768 + 32768 * 32768 =
+    squares-within 32768 (q .re) (q .im) (natAbs-le (q .re) (qr .sfits)) (natAbs-le (q .im) (qi .sfits)) in
+    record { error-in = le-trans v (omega arith); reference-in = le-trans m (omega arith) }
 
 -- p² and p²·(re² + im²), for p of 8 bits
 pub percent-squared : (p : ℕ) → p < 2 ^ 8 → p * p ≤ 2 ^ 16

@@ -1,5 +1,5 @@
--- Document 01, "The verdict": a device report and its reference in whole units, and how far they are apart.
-use Prim.Native.Nat.{ℕ, _+_, _*_, _≤_, _^_}
+-- Document 01, "The verdict": how far a device report is from its reference.
+use Prim.Native.Nat.{ℕ, _+_, _*_}
 use lib.IntN.{ℤ, pos, natAbs, _-ℤ_, _*ℤ_}
 use Rattle.verdict.specs.declared.errors.Device.{Device}
 use Rattle.verdict.specs.declared.errors.Reference.{Reference}
@@ -10,12 +10,8 @@ abbrev pub squares : ℤ → ℤ → ℕ
 squares x y = natAbs x * natAbs x + natAbs y * natAbs y
 
 -- dr² + di², with dr, di the differences of the device's re and im from the reference's
-abbrev pub vectorError : ℤ → ℤ → ℤ → ℤ → ℕ
-vectorError deviceRe deviceIm re im = squares (deviceRe -ℤ re) (deviceIm -ℤ im)
-
--- re² + im² of the reference
-abbrev pub magnitude : ℤ → ℤ → ℕ
-magnitude re im = squares re im
+abbrev pub errorSquared : Device → Reference → ℕ
+errorSquared device reference = squares (device .re -ℤ reference .re) (device .im -ℤ reference .im)
 
 -- |unit·device - reference|
 abbrev pub apartBy : ℕ → ℤ → ℤ → ℕ
@@ -29,17 +25,12 @@ frequencyError device reference = apartBy 1000 device reference
 abbrev pub rocofError : ℤ → ℤ → ℕ
 rocofError device reference = apartBy 10000 device reference
 
--- a device report in whole counts, brought to whole units
+-- the errors of a device report: dr² + di², re² + im² of the reference, FE in µHz, RFE in µHz/s
 unfoldable pub errorsOf : Device → Reference → Errors
 errorsOf device reference =
     record {
-      vector = vectorError (device .re) (device .im) (reference .re) (reference .im);
-      magnitude = magnitude (reference .re) (reference .im);
-      frequency = frequencyError (device .frequency) (reference .frequency);
+      «error_squared» = errorSquared device reference;
+      «reference_squared» = squares (reference .re) (reference .im);
+      frequency = frequencyError (device .deviation) (reference .deviation);
       rocof = rocofError (device .rocof) (reference .rocof);
     }
-
--- Not part of any promise: small enough that no product of the comparison leaves 64 bits
-pub record Small (e : Errors) : Type 0 where
-  pub vector-in : e .vector ≤ 2 ^ 41
-  pub magnitude-in : e .magnitude ≤ 2 ^ 41

@@ -15,17 +15,17 @@ use Rattle.verdict.specs.declared.errors.Errors.{Errors}
 use Rattle.verdict.specs.declared.limits.Limits.{Limits}
 use Rattle.verdict.specs.declared.judging.Verdict.{Verdict}
 use Rattle.verdict.specs.declared.judging.Judged.{Judged}
-use Rattle.verdict.specs.declared.judging.Judged.the-variants.{Refused, LeftOut, Told}
+use Rattle.verdict.specs.declared.judging.Judged.the-variants.{Refused, LeftOut, Verdicts}
 
 -- with limit p percent, TVE is within exactly when (dr² + di²)·10000 ≤ p²·(re² + im²)
 abbrev pub vectorWithin : ℕ → ℕ → ℕ → Bool
-vectorWithin p error size = leb (error * 10000) (p * p * size)
+vectorWithin p errorSquared referenceSquared = leb (errorSquared * 10000) (p * p * referenceSquared)
 
 -- meeting the limit is within
 unfoldable pub verdictOn : Errors → Limits → Verdict
 verdictOn errors limits =
     record {
-      tve = vectorWithin (limits .tve) (errors .vector) (errors .magnitude);
+      tve = vectorWithin (limits .tve) (errors .«error_squared») (errors .«reference_squared»);
       fe = leb (errors .frequency) (limits .fe);
       rfe = leb (errors .rocof) (limits .rfe);
     }
@@ -34,47 +34,44 @@ verdictOn errors limits =
 abbrev pub leftOut : ℕ → ℤ → Bool
 leftOut test m = eqb test 1 && leZ (pos 0) m && leZ m (pos 2)
 
--- class over 1
-abbrev pub noClass : ℕ → Bool
-noClass class = ltb 1 class
+-- 10: class over 1
+abbrev pub noClass : ℕ → Refusal
+noClass class = record { number = 10; due = ltb 1 class }
 
--- test over 1
-abbrev pub noTest : ℕ → Bool
-noTest test = ltb 1 test
+-- 11: test over 1
+abbrev pub noTest : ℕ → Refusal
+noTest test = record { number = 11; due = ltb 1 test }
 
--- reference re and im both 0
-abbrev pub noReference : Reference → Bool
-noReference reference = eqb (natAbs (reference .re)) 0 && eqb (natAbs (reference .im)) 0
+-- 9: reference re and im both 0
+abbrev pub noReference : Reference → Refusal
+noReference reference = record { number = 9; due = eqb (natAbs (reference .re)) 0 && eqb (natAbs (reference .im)) 0 }
 
 -- judging 10, 11, 9
 abbrev pub judgeRefusals : ℕ → ℕ → Reference → List Refusal
-judgeRefusals class test reference =
-    record { number = 10; due = noClass class }
-    ∷ record { number = 11; due = noTest test }
-    ∷ record { number = 9; due = noReference reference }
-    ∷ []
+judgeRefusals class test reference = noClass class ∷ noTest test ∷ noReference reference ∷ []
 
--- an answer: a refusal's number alone, "left out" with no verdicts, or the verdicts of TVE, FE and RFE
-pub data Answer : Type 0 where
-  refused : ℕ → Answer
-  left-out : Answer
-  verdicts : Bool → Bool → Bool → Answer
+-- what document 01 says of an answer: a refusal's number alone, "left out" with no verdicts, or the verdicts of TVE, FE and RFE
+pub data Said : Type 0 where
+  refused : (number : ℕ) → Said
+  left-out : Said
+  verdicts : (tve fe rfe : Bool) → Said
 
-abbrev pub told : Verdict → Answer
-told v = verdicts (v .tve) (v .fe) (v .rfe)
+-- the verdicts, each by its name
+abbrev pub saidVerdict : Verdict → Said
+saidVerdict v = verdicts (v .tve) (v .fe) (v .rfe)
 
 -- judging 10, 11, 9, then "left out", then the errors against the limits for class and test
-unfoldable pub judgement : ℕ → ℕ → ℤ → Device → Reference → Answer
+unfoldable pub judgement : ℕ → ℕ → ℤ → Device → Reference → Said
 judgement class test m device reference =
     unlessRefused (judgeRefusals class test reference) refused
     (cond (leftOut test m) left-out
-    (told (verdictOn (errorsOf device reference) (limitsFor class test))))
+    (saidVerdict (verdictOn (errorsOf device reference) (limitsFor class test))))
 
 -- each case of the answer, by document 01's number and values
-abbrev pub said : Judged → Answer
-said (Refused n) = refused n
+abbrev pub said : Judged → Said
+said (Refused number) = refused number
 said LeftOut = left-out
-said (Told v) = told v
+said (Verdicts v) = saidVerdict v
 
 -- what `judge` promises of its answer
 abbrev pub Judging : ℕ → ℕ → ℤ → Device → Reference → Judged → Type 0

@@ -4,22 +4,22 @@ use mathlib.Core.List.{List, [], _∷_}
 use lib.ListN.{getD}
 use Rattle.verdict.specs.declared.limits.Limits.{Limits}
 
--- three limits: p percent, µHz, µHz/s
-abbrev three : ℕ → ℕ → ℕ → Limits
-three p f r = record { tve = p; fe = f; rfe = r }
+-- three to each: TVE in percent, FE in µHz, RFE in µHz/s
+abbrev triple : ℕ → ℕ → ℕ → Limits
+triple p f r = record { tve = p; fe = f; rfe = r }
 
 -- a row for each class: steady (test 0), ramp (test 1)
 abbrev pub table2011 : List (List Limits)
 table2011 =
     -- P (class 0)
-    (three 1 5000 10000 ∷ three 1 10000 100000 ∷ [])
+    (triple 1 5000 10000 ∷ triple 1 10000 100000 ∷ [])
     -- M (class 1)
-    ∷ (three 1 5000 10000 ∷ three 1 5000 100000 ∷ [])
+    ∷ (triple 1 5000 10000 ∷ triple 1 5000 100000 ∷ [])
     ∷ []
 
 -- by class, then by test; limits of 0 where the table ends, which no call reaches that is not refused
 abbrev pub limitsIn : List (List Limits) → ℕ → ℕ → Limits
-limitsIn table class test = getD (getD table class []) test (three 0 0 0)
+limitsIn table class test = getD (getD table class []) test (triple 0 0 0)
 
 -- the limits for class and test
 abbrev pub limitsFor : ℕ → ℕ → Limits

@@ -1,14 +1,15 @@
-// A device report and its reference brought to whole units: square counts, µHz and µHz/s.
+// Document 01, "The verdict": how far a device report is from its reference.
 ghost use mathlib.Core.Path.{_≡_};
 ghost use lib.IntN.{natAbs};
 ghost use Prim.Native.Nat.{_<_, _^_};
-ghost use Rattle.verdict.specs.Errors.{squares, vectorError, magnitude, apartBy, errorsOf, Small};
+ghost use Rattle.verdict.specs.Inside.{Small};
+ghost use Rattle.verdict.specs.Errors.{squares, errorSquared, apartBy, errorsOf};
 
 // A device report: the phasor in counts, the frequency deviation in mHz, ROCOF in hundredths of Hz/s.
 pub struct Device {
     pub re: i16,
     pub im: i16,
-    pub frequency: i16,
+    pub deviation: i16,
     pub rocof: i16,
 }
 
@@ -16,16 +17,16 @@ pub struct Device {
 pub struct Reference {
     pub re: i16,
     pub im: i16,
-    pub frequency: i32,
+    pub deviation: i32,
     pub rocof: i32,
 }
 
-// How far a report is from its reference, whatever units it came in.
+// How far a report is from its reference.
 pub(crate) struct Errors {
     // dr² + di²
-    pub(crate) vector: u64,
+    pub(crate) error_squared: u64,
     // re² + im² of the reference, in the same square counts
-    pub(crate) magnitude: u64,
+    pub(crate) reference_squared: u64,
     // µHz
     pub(crate) frequency: u64,
     // µHz/s
@@ -49,20 +50,13 @@ fn squares_of(x: i32, y: i32) -> u64
     a * a + b * b
 }
 
-// dr² + di², with dr, di the differences of a device's phasor from the reference's.
-fn vector_error(device_re: i16, device_im: i16, re: i16, im: i16) -> u64
-    ensures { λ r. ⌜ r ≡ vectorError «device_re» «device_im» re im ⌝ }
+// dr² + di², with dr, di the differences of the device's re and im from the reference's.
+fn error_squared(device: Device, reference: Reference) -> u64
+    ensures { λ r. ⌜ r ≡ errorSquared device reference ⌝ }
 {
-    let dr = device_re as i32 - re as i32;
-    let di = device_im as i32 - im as i32;
+    let dr = device.re as i32 - reference.re as i32;
+    let di = device.im as i32 - reference.im as i32;
     squares_of(dr, di)
-}
-
-// re² + im²
-fn magnitude_of(re: i16, im: i16) -> u64
-    ensures { λ r. ⌜ r ≡ magnitude re im ⌝ }
-{
-    squares_of(re as i32, im as i32)
 }
 
 // |unit·device - reference|, where a device's figure is in units of so many of the reference's.
@@ -74,14 +68,14 @@ fn apart(unit: u16, device: i16, reference: i32) -> u64
     size(error)
 }
 
-// A report in whole counts, brought to whole units.
+// The errors of a device report: dr² + di², re² + im² of the reference, FE in µHz, RFE in µHz/s.
 pub(crate) fn errors_of(device: Device, reference: Reference) -> Errors
     ensures { λ r. ⌜ (r ≡ errorsOf device reference) × Small r ⌝ }
 {
     Errors {
-        vector: vector_error(device.re, device.im, reference.re, reference.im),
-        magnitude: magnitude_of(reference.re, reference.im),
-        frequency: apart(1000, device.frequency, reference.frequency),
+        error_squared: error_squared(device, reference),
+        reference_squared: squares_of(reference.re as i32, reference.im as i32),
+        frequency: apart(1000, device.deviation, reference.deviation),
         rocof: apart(10000, device.rocof, reference.rocof),
     }
 }

@@ -1,7 +1,7 @@
 // The verdict on a device report: each error against its limit, what is left out, and the refusals in their order.
 ghost use mathlib.Core.Path.{_≡_};
-ghost use Rattle.verdict.specs.Errors.{Small};
-ghost use Rattle.verdict.specs.Judging.{verdictOn, leftOut, noClass, noTest, noReference, Judging};
+ghost use Rattle.verdict.specs.Inside.{Small};
+ghost use Rattle.verdict.specs.Judging.{verdictOn, leftOut, noReference, Judging};
 use crate::errors::Device;
 use crate::errors::Errors;
 use crate::errors::Reference;
@@ -16,13 +16,14 @@ pub struct Verdict {
     pub rfe: bool,
 }
 
+// What judging answers: a refusal, "left out", or the verdicts.
 pub enum Judged {
     // a refusal's number, alone
     Refused(u8),
     // left out, with no verdicts
     LeftOut,
-    // the three verdicts
-    Told(Verdict),
+    // the verdicts on TVE, FE and RFE
+    Verdicts(Verdict),
 }
 
 // Each error against its limit: meeting the limit is within.
@@ -31,32 +32,18 @@ fn verdict_on(errors: Errors, limits: Limits) -> Verdict
     ensures { λ r. ⌜ r ≡ verdictOn errors limits ⌝ }
 {
     let percent = limits.tve as u64;
-    let vector = errors.vector * 10000;
-    let allowed = percent * percent * errors.magnitude;
+    let error = errors.error_squared * 10000;
+    let allowed = percent * percent * errors.reference_squared;
     Verdict {
-        tve: vector <= allowed,
+        tve: error <= allowed,
         fe: errors.frequency <= limits.fe as u64,
         rfe: errors.rocof <= limits.rfe as u64,
     }
 }
 
-// Refusal 10: class over 1.
-fn no_class(class: u8) -> bool
-    ensures { λ r. ⌜ r ≡ noClass class ⌝ }
-{
-    1 < class
-}
-
-// Refusal 11: test over 1.
-fn no_test(test: u8) -> bool
-    ensures { λ r. ⌜ r ≡ noTest test ⌝ }
-{
-    1 < test
-}
-
 // Refusal 9: reference re and im both 0.
 fn no_reference(reference: Reference) -> bool
-    ensures { λ r. ⌜ r ≡ noReference reference ⌝ }
+    ensures { λ r. ⌜ r ≡ noReference reference .due ⌝ }
 {
     (reference.re == 0) & (reference.im == 0)
 }
@@ -72,23 +59,19 @@ fn left_out(test: u8, m: i32) -> bool
 pub fn judge(class: u8, test: u8, m: i32, device: Device, reference: Reference) -> Judged
     ensures { λ r. ⌜ Judging class test m device reference r ⌝ }
 {
-    let unknown_class = no_class(class);
-    let unknown_test = no_test(test);
-    let zero_reference = no_reference(reference);
-    let skipped = left_out(test, m);
-    if unknown_class {
+    if class > 1 {
         return Judged::Refused(10);
     }
-    if unknown_test {
+    if test > 1 {
         return Judged::Refused(11);
     }
-    if zero_reference {
+    if no_reference(reference) {
         return Judged::Refused(9);
     }
-    if skipped {
+    if left_out(test, m) {
         return Judged::LeftOut;
     }
     let errors = errors_of(device, reference);
     let limits = limits_for(class, test);
-    Judged::Told(verdict_on(errors, limits))
+    Judged::Verdicts(verdict_on(errors, limits))
 }

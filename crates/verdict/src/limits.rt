@@ -10,30 +10,35 @@ pub struct Limits {
     pub rfe: u32,
 }
 
+// Class P, steady.
 const P_STEADY: Limits = Limits {
     tve: 1,
     fe: 5000,
     rfe: 10000,
 };
 
+// Class P, ramp.
 const P_RAMP: Limits = Limits {
     tve: 1,
     fe: 10000,
     rfe: 100000,
 };
 
+// Class M, steady.
 const M_STEADY: Limits = Limits {
     tve: 1,
     fe: 5000,
     rfe: 10000,
 };
 
+// Class M, ramp.
 const M_RAMP: Limits = Limits {
     tve: 1,
     fe: 5000,
     rfe: 100000,
 };
 
+// A row for each class: steady (test 0), ramp (test 1).
 const TABLE_2011: [[Limits; 2]; 2] = [[P_STEADY, P_RAMP], [M_STEADY, M_RAMP]];
 
 // The limits that a table has for a class and a test.

@@ -1,9 +1,9 @@
 -- `bank::push` meets its contract: where the slot is found, by what is done to the slot by itself. Assumes nothing.
 use borrow.Author.Needs.{needs}
-use mathlib.Core.Path.{sym, _∙_}
+use mathlib.Core.Path.{sym}
 use native.Mathlib.Omega.{arith}
 use Rattle.bank.specs.Calls.{pushedAt}
-use Rattle.bank.proofs.Found.{not-found, stands, lies, back}
+use Rattle.bank.proofs.Found.{not-found, stands}
 use Rattle.bank.proofs.push.Statement.{statement}
 use Rattle.bank.proofs.push.Tie as tie
 
@@ -18,8 +18,7 @@ enum-known-start c = search needs
 
 add-end : tie.Need-add-end
 add-end c =
-    let a = c .before .before .before .before .before .before .args in
-    let f = stands (a .bank .now) (a .slot) (sym (c .before .before .before .find .ensures) ∙ c .before .start .given .1) in
+    let f = stands (c .before .before .before .find .ensures) (c .before .start .given .1) in
     omega arith
 
 sub-push-slot : tie.Need-sub-push-slot
@@ -30,8 +29,7 @@ part-push-slot-start c = search needs
 
 part-push-slot-end : tie.Need-part-push-slot-end
 part-push-slot-end c =
-    let a = c .before .before .before .before .before .before .args in
-    let f = stands (a .bank .now) (a .slot) (sym (c .before .before .before .find .ensures) ∙ c .before .start .given .1) in
+    let f = stands (c .before .before .before .find .ensures) (c .before .start .given .1) in
     search needs
 
 push-slot-requires : tie.Need-push-slot-requires
@@ -42,19 +40,15 @@ same-length c = search needs
 
 returns : tie.Need-returns
 unfolding pushedAt
-returns c =
-    let a = c .before .before .before .before .before .before .args in
-    sym (not-found (a .bank .now) (a .slot) _ (sym (c .before .before .before .find .ensures) ∙ c .before .number .given .1))
+returns c = sym (not-found _ (c .before .before .before .find .ensures) (c .before .number .given .1))
 
 same-length-2 : tie.Need-same-length-2
 same-length-2 c = search needs
 
 returns-2 : tie.Need-returns-2
 returns-2 c =
-    let bank = c .before .before .before .before .before .before .before .before .before .before .args .bank .now in
-    let slot = c .before .before .before .before .before .before .before .before .before .before .args .slot in
-    let e = sym (c .before .before .before .before .before .before .before .find .ensures) ∙ c .before .before .before .before .before .start .given .1 in
-    rw (back bank slot e) (c .before .before .push-slot .ensures bank slot (lies bank slot e))
+    let f = stands (c .before .before .before .before .before .before .before .find .ensures) (c .before .before .before .before .before .start .given .1) in
+    rw (f .back) (c .before .before .push-slot .ensures _ _ (f .there))
 
 pub push-spec : {M : Type 1} → statement M
 push-spec =

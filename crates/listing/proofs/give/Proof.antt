@@ -4,16 +4,16 @@ use Prim.Native.Nat.{_-_, _^_, _≤_, _<_}
 use native.Mathlib.Omega.{arith}
 use borrow.Author.Needs.{needs}
 use lib.ListN.{length}
-use Rattle.phs.proofs.Progress.{reads-some, written-length}
+use Rattle.phs.proofs.Progress.{reads-some, reads-within, written-length}
 use Rattle.listing.proofs.Rest.{rest-length}
 use Rattle.listing.proofs.give.Statement.{statement}
 use Rattle.listing.proofs.give.Tie as tie
 
 abbrev Inv-loop : tie.InvT-loop
-Inv-loop bank₀ part out₀ reader₀ i₀ t9 bank out reader i = (i ≤ length part) × (length bank ≡ length bank₀) × (length out ≡ length out₀)
+Inv-loop bank₀ part out₀ reader₀ i₀ t10 bank out reader i = (i ≤ length part) × (length bank ≡ length bank₀) × (length out ≡ length out₀)
 
 abbrev μ-loop : tie.MeasureT-loop
-μ-loop bank₀ part out₀ reader₀ i₀ t9 bank out reader i = length part - i
+μ-loop bank₀ part out₀ reader₀ i₀ t10 bank out reader i = length part - i
 
 loop-holds : tie.Need-loop-holds Inv-loop μ-loop
 loop-holds c = search needs
@@ -60,7 +60,7 @@ part-short c = search needs
 add-i : tie.Need-add-i Inv-loop μ-loop
 add-i c =
     let l = rest-length (c .before .before .before .before .before .before .before .before .before .before .before .before .before .before .loop .i) (c .before .before .before .before .before .before .before .before .before .before .before .before .before .before .before .before .before .before .args .part .now) (c .before .before .before .before .before .before .before .before .before .before .before .before .before .before .loop .inv .0) in
-    omega (arith, c .before .before .before .before .before .before .before .before .before .read-part .ensures .within, part-short (c .before .before .before .before .before .before .before .before .before .before .before .before .before .before .before .before .before .before))
+    omega (arith, reads-within _ _ _ _ _ _ _ (c .before .before .before .before .before .before .before .before .before .read-part .ensures), part-short (c .before .before .before .before .before .before .before .before .before .before .before .before .before .before .before .before .before .before))
 
 loop-less : tie.Need-loop-less Inv-loop μ-loop
 loop-less c =
@@ -71,7 +71,10 @@ loop-less c =
 loop-again : tie.Need-loop-again Inv-loop μ-loop
 loop-again c =
     let l = rest-length (c .before .before .before .before .before .before .before .before .before .before .before .before .before .before .loop .i) (c .before .before .before .before .before .before .before .before .before .before .before .before .before .before .before .before .before .before .args .part .now) (c .before .before .before .before .before .before .before .before .before .before .before .before .before .before .loop .inv .0) in
-    (omega (arith, c .before .before .before .before .before .before .before .before .before .read-part .ensures .within, c .before .before .before .before .before .before .before .before .before .before .before .before .before .before .loop .inv .0), c .before .before .before .before .before .before .before .before .before .read-part .kept .1 .0 ∙ c .before .before .before .before .before .before .before .before .before .before .before .before .before .before .loop .inv .1, c .before .before .before .before .before .before .before .before .before .read-part .kept .1 .1 .1 .0 ∙ c .before .before .before .before .before .before .before .before .before .before .before .before .before .before .loop .inv .2)
+    (omega (arith, reads-within _ _ _ _ _ _ _ (c .before .before .before .before .before .before .before .before .before .read-part .ensures), c .before .before .before .before .before .before .before .before .before .before .before .before .before .before .loop .inv .0), c .before .before .before .before .before .before .before .before .before .read-part .kept .1 .0 ∙ c .before .before .before .before .before .before .before .before .before .before .before .before .before .before .loop .inv .1, c .before .before .before .before .before .before .before .before .before .read-part .kept .1 .1 .1 .0 ∙ c .before .before .before .before .before .before .before .before .before .before .before .before .before .before .loop .inv .2)
+
+state-of-requires : tie.Need-state-of-requires Inv-loop μ-loop
+state-of-requires c κs = search needs
 
 same-length-3 : tie.Need-same-length-3 Inv-loop μ-loop
 same-length-3 c = search needs
@@ -104,6 +107,7 @@ give-spec =
     add-i
     loop-less
     loop-again
+    state-of-requires
     same-length-3
     same-length-4
     returns-2)

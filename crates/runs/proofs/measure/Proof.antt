@@ -8,7 +8,7 @@ use lib.ListN.{length}
 use Rattle.model.specs.declared.filter.Sample.{Sample}
 use Rattle.model.specs.Filter.{windowed}
 use Rattle.model.specs.Report.{figuresAt, threePhase}
-use Rattle.feed.specs.Tags.{nominalOf}
+use Rattle.sampling.specs.Tags.{nominalOf}
 use Rattle.runs.specs.Runs.{Said, refused, saidFigures, sampleAt, measured}
 use Rattle.runs.proofs.Centres.{in-run, same-lengths}
 use Rattle.runs.proofs.Windows.{window-figures}
@@ -58,7 +58,7 @@ module _ (c : tie.Else3) where
   flags = c .before .before .before
 
   within : (15 ≤ start flags .args .centre) × (start flags .args .centre + 16 ≤ length (start flags .args .a .now))
-  within = in-run (length (start flags .args .a .now)) (start flags .args .centre) (sym (flags .is-off-centre .ensures) ∙ c .if3 .left)
+  within = in-run (start flags .args .a .now) (start flags .args .centre) (sym (flags .is-off-centre .ensures) ∙ c .if3 .left)
 
   lengths : (length (start flags .args .a .now) ≡ length (start flags .args .b .now)) × (length (start flags .args .b .now) ≡ length (start flags .args .c .now))
   lengths = same-lengths (start flags .args .a .now) (start flags .args .b .now) (start flags .args .c .now) (sym (flags .before .are-unequal .ensures) ∙ c .before .if2 .left)

@@ -10,7 +10,8 @@ use lib.Seq.{take-all}
 use mir.Facts.{toZ-ofZ}
 use mir.Syntax.{w16}
 use mir.Val.{SFits}
-use Rattle.runs.specs.Runs.{sampleAt, samplesFrom}
+use Rattle.runs.specs.Runs.{sampleAt}
+use Rattle.runs.specs.Inside.{samplesFrom}
 use Rattle.runs.proofs.Centres.{one-more}
 use Rattle.runs.proofs.window_from.Statement.{statement}
 use Rattle.runs.proofs.window_from.Tie as tie

@@ -5,7 +5,7 @@ use borrow.Author.Tests.{eq-eqb, ne-eqb}
 use Rattle.feed.specs.Answers.{done}
 use Rattle.feed.specs.Places.{zeros}
 use Rattle.bank.specs.Slot.{withSlot, freeSlot}
-use Rattle.bank.specs.Damage.{isFree, damaged}
+use Rattle.bank.specs.Damage.{isFree, isDamaged}
 use Rattle.bank.specs.Calls.{closedAt}
 use Rattle.bank.proofs.Lent.{pass, stop, inside, seen, unaltered}
 use Rattle.bank.proofs.closing.close_slot.Statement.{statement}
@@ -20,7 +20,7 @@ same-length c = search needs
 returns : tie.Need-returns
 unfolding closedAt
 returns c = λ bank slot l.
-    unaltered l _ ∙ sym (inside l _ _ _ ∙ stop _ _ (seen l damaged (sym (c .before .is-damaged .ensures) ∙ c .if1 .taken)))
+    unaltered l _ ∙ sym (inside l _ _ _ ∙ stop _ _ (seen l isDamaged (sym (c .before .is-damaged .ensures) ∙ c .if1 .taken)))
 
 slice-read-if2 : tie.Need-slice-read-if2
 slice-read-if2 c = search needs
@@ -34,7 +34,7 @@ returns-2 c = λ bank slot l.
     unaltered l _
     ∙ sym (
     inside l _ _ _
-    ∙ pass _ _ (seen l damaged (sym (c .before .before .before .is-damaged .ensures) ∙ c .before .before .if1 .left))
+    ∙ pass _ _ (seen l isDamaged (sym (c .before .before .before .is-damaged .ensures) ∙ c .before .before .if1 .left))
     ∙ stop _ _ (seen l isFree (eq-eqb _ _ (c .if2 .taken)))
     )
 
@@ -52,7 +52,7 @@ returns-3 c = λ bank slot l.
     (λ i. record { answer = done; bank = withSlot bank slot (free i) })
     ∙ sym (
     inside l _ _ _
-    ∙ pass _ _ (seen l damaged (sym (c .before .before .before .before .before .before .before .is-damaged .ensures) ∙ c .before .before .before .before .before .before .if1 .left))
+    ∙ pass _ _ (seen l isDamaged (sym (c .before .before .before .before .before .before .before .is-damaged .ensures) ∙ c .before .before .before .before .before .before .if1 .left))
     ∙ pass _ _ (seen l isFree (ne-eqb _ _ (c .before .before .before .before .if2 .left)))
     )
 

@@ -4,7 +4,7 @@ use mathlib.Core.Path.{_≡_, sym, _∙_, ap}
 use mathlib.Core.Bool.{not}
 use native.Mathlib.Omega.{arith}
 use Rattle.feed.specs.Ring.{faulty}
-use Rattle.bank.specs.Slot.{stateOf}
+use Rattle.bank.specs.Slot.{stateIn}
 use Rattle.bank.proofs.States.{or-so, or-not, over-damaged, free-damaged, open-damaged}
 use Rattle.bank.proofs.damage.is_damaged.Statement.{statement}
 use Rattle.bank.proofs.damage.is_damaged.Tie as tie
@@ -30,7 +30,7 @@ is-faulty-requires c κs = search needs
 returns-3 : tie.Need-returns-3
 returns-3 c =
     let s = c .before .before .before .before .before .before .before .args .s .now in
-    let one : stateOf s ≡ 1 = omega arith in
+    let one : stateIn s ≡ 1 = omega arith in
     sym (open-damaged s one ∙ or-so _ (ap faulty (sym (c .before .before .read-head .ensures)) ∙ sym (c .before .is-faulty .ensures) ∙ c .if3 .taken))
 
 is-stray-requires : tie.Need-is-stray-requires
@@ -39,7 +39,7 @@ is-stray-requires c κs = search needs
 returns-4 : tie.Need-returns-4
 returns-4 c =
     let s = c .before .before .before .before .before .before .before .before .args .s .now in
-    let one : stateOf s ≡ 1 = omega arith in
+    let one : stateIn s ≡ 1 = omega arith in
     let sound = ap faulty (sym (c .before .before .before .read-head .ensures)) ∙ sym (c .before .before .is-faulty .ensures) ∙ c .before .if3 .left in
     c .is-stray .ensures ∙ sym (open-damaged s one ∙ or-not _ sound)
 

@@ -3,7 +3,7 @@ use borrow.Author.Needs.{needs}
 use mathlib.Core.Path.{_∙_, ap}
 use Prim.Native.Nat.{ℕ, _-_}
 use lib.ListN.{getD, take, drop}
-use Rattle.bank.specs.Slot.{headOf}
+use Rattle.bank.specs.Slot.{headIn}
 use Rattle.bank.specs.Damage.{blank, stray}
 use Rattle.bank.proofs.Stray.{unfilled-scan, tail-scan}
 use Rattle.bank.proofs.damage.is_stray.Statement.{statement}
@@ -40,7 +40,7 @@ is-blank-requires-2 : tie.Need-is-blank-requires-2
 is-blank-requires-2 c κs = search needs
 
 returns : tie.Need-returns
-unfolding stray headOf
+unfolding stray headIn
 returns c =
     let start = c .before .before .before .before .before .before .before in
     let s = start .args .s .now in

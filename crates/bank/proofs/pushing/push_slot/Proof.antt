@@ -3,7 +3,7 @@ use borrow.Author.Needs.{needs}
 use mathlib.Core.Path.{sym, _∙_, ap}
 use mathlib.Core.Bool.{not}
 use borrow.Author.Tests.{eq-eqb}
-use Rattle.bank.specs.Damage.{isFree, damaged}
+use Rattle.bank.specs.Damage.{isFree, isDamaged}
 use Rattle.bank.specs.Calls.{pushedAt}
 use Rattle.bank.proofs.Lent.{pass, stop, inside, seen, unaltered}
 use Rattle.bank.proofs.States.{over-damaged, free-damaged}
@@ -15,7 +15,7 @@ slice-read-state c = search needs
 
 returns : tie.Need-returns
 unfolding pushedAt
-returns c = λ bank slot l. unaltered l _ ∙ sym (inside l _ _ _ ∙ stop _ _ (seen l damaged (over-damaged _ (c .if1 .taken))))
+returns c = λ bank slot l. unaltered l _ ∙ sym (inside l _ _ _ ∙ stop _ _ (seen l isDamaged (over-damaged _ (c .if1 .taken))))
 
 is-blank-requires : tie.Need-is-blank-requires
 is-blank-requires c κs = search needs
@@ -30,7 +30,7 @@ returns-2 c = λ bank slot l.
     unaltered l _
     ∙ sym (
     inside l _ _ _
-    ∙ pass _ _ (seen l damaged (free-damaged _ free ∙ ap not (sym (c .before .is-blank .ensures) ∙ c .if3 .taken)))
+    ∙ pass _ _ (seen l isDamaged (free-damaged _ free ∙ ap not (sym (c .before .is-blank .ensures) ∙ c .if3 .taken)))
     ∙ stop _ _ (seen l isFree (eq-eqb _ _ free))
     )
 
@@ -41,7 +41,7 @@ returns-3 : tie.Need-returns-3
 unfolding pushedAt
 returns-3 c = λ bank slot l.
     let unclean = free-damaged _ (c .before .before .before .if2 .taken) ∙ ap not (sym (c .before .is-blank .ensures) ∙ c .if3 .left) in
-    unaltered l _ ∙ sym (inside l _ _ _ ∙ stop _ _ (seen l damaged unclean))
+    unaltered l _ ∙ sym (inside l _ _ _ ∙ stop _ _ (seen l isDamaged unclean))
 
 push-open-requires : tie.Need-push-open-requires
 push-open-requires c κs = search needs

@@ -1,6 +1,6 @@
 -- `bank::slot::read_feed` meets its contract. Assumes nothing.
 use borrow.Author.Needs.{needs}
-use Rattle.bank.specs.Slot.{feedOf}
+use Rattle.bank.specs.Slot.{feedIn}
 use Rattle.bank.proofs.slot.read_feed.Statement.{statement}
 use Rattle.bank.proofs.slot.read_feed.Tie as tie
 
@@ -11,7 +11,7 @@ read-places-requires : tie.Need-read-places-requires
 read-places-requires c κs = search needs
 
 returns : tie.Need-returns
-unfolding feedOf
+unfolding feedIn
 returns c = rw (c .before .read-head .ensures, c .read-places .ensures)
 
 pub read-feed-spec : {M : Type 1} → statement M

@@ -1,4 +1,4 @@
--- `Feed::window` reads the places oldestFirst from the next one. The loop's invariant: the place is i on from the first, modulo 31, and the
+-- `Feed::window` reads the places round from the next one. The loop's invariant: the place is i on from the first, modulo 31, and the
 -- samples read so far are those of the places passed. Assumes nothing.
 use mathlib.Core.Path.{_≡_, refl, sym, ap, _∙_}
 use Prim.Native.Nat.{ℕ, _+_, _-_, _%_, _<_, _≤_}
@@ -58,7 +58,7 @@ loop-again c =
     let at : ℕ → Sample = λ j. getD (samplesOf 31 (f .places)) ((f .head .place + j) % 31) noSample in
     let v = c .before .sample-at .result in (
       omega arith,
-      length-set (l .window) (l .i) v ∙ l .inv .1,
+      length-set (l .window) (l .i) _ ∙ l .inv .1,
       c .next-place .ensures ∙ place-on (f .head .place) (l .i) (l .place) (l .inv .2),
       below-more (λ (j : ℕ). getD (set (l .window) (l .i) v) j noSample ≡ at j) (l .i)
           (λ j h. getD-set-other (l .window) (l .i) j v noSample (ne-of-lt h) ∙ l .inv .3 j h)

@@ -2,7 +2,7 @@
 use Prim.Native.Nat.{_<_}
 use native.Mathlib.Omega.{arith}
 use borrow.Author.Tests.{lt-leb, le-leb}
-use Rattle.feed.specs.Newest.{dueWith}
+use Rattle.feed.specs.Inside.{dueWith}
 use Rattle.feed.proofs.Sound.{sound}
 use Rattle.feed.proofs.Standing.{spacing-positive}
 use borrow.Author.Needs.{needs}

@@ -6,14 +6,14 @@ use Prim.Native.Nat.{_+_, _-_, _<_}
 use mir.Syntax.{w32, w64}
 use mir.Val.{SFits}
 use mir.Facts.{toZ-ofZ}
-use Rattle.model.specs.declared.sampling.Nominal.{Nominal}
+use Rattle.sampling.specs.declared.Nominal.{Nominal}
 use Rattle.model.specs.Filter.{windowed}
 use Rattle.model.specs.Report.{figuresAt, threePhase}
-use Rattle.feed.specs.Tags.{nominalOf}
-use Rattle.model.specs.Sampling.{samplingOf}
+use Rattle.sampling.specs.Tags.{nominalOf}
+use Rattle.sampling.specs.Sampling.{samplingOf}
 use Rattle.feed.specs.Answers.{tagged}
-use Rattle.feed.specs.Ring.{nextOf}
-use Rattle.feed.specs.Newest.{centreNumber, centreOf, reportWith}
+use Rattle.feed.specs.Ring.{nextNumberOf}
+use Rattle.feed.specs.Inside.{centreNumber, centreAt, reportWith}
 use Rattle.feed.proofs.Sound.{sound}
 use Rattle.feed.proofs.Standing.{spacing-positive, frame-below}
 use Rattle.feed.proofs.Turning.{by-newest}
@@ -37,9 +37,9 @@ cast-frame c =
     let start = c .before .before .before in
     let h = start .args .self in
     let v = sound h (start .pre .0) .rated in
-    let i : centreOf h .index < samplingOf (h .nominal) = mod-lt (centreNumber h) (omega (arith, v .low)) in
+    let i : centreAt h .index < samplingOf (h .nominal) = mod-lt (centreNumber h) (omega (arith, v .low)) in
     rw (c .before .before .centre .ensures, c .before .spacing .ensures)
-    (record { fits = omega (arith, frame-below (h .nominal) (h .rate) (centreOf h .index) v i, v .fast) })
+    (record { fits = omega (arith, frame-below (h .nominal) (h .rate) (centreAt h .index) v i, v .fast) })
 
 cast-measure : tie.Need-cast-measure
 cast-measure c = search needs
@@ -56,7 +56,7 @@ returns c =
     let start = c .before .before .before .before .before .before .before in
     let m = c .before .measure in
     let h = start .args .self in
-    let figures : m .result ≡ figuresAt threePhase (nominalOf (h .nominal)) (windowed (start .args .window) (nextOf h - 30)) (centreNumber h) =
+    let figures : m .result ≡ figuresAt threePhase (nominalOf (h .nominal)) (windowed (start .args .window) (nextNumberOf h - 30)) (centreNumber h) =
     m .ensures
     ∙ ap (λ (n : Nominal). figuresAt threePhase n (windowed (start .args .window) (h .index)) (h .index + 15)) (c .before .before .nominal-of .ensures)
     ∙ by-newest (nominalOf (h .nominal)) (start .args .window) h (sound h (start .pre .0)) (start .pre .1) in

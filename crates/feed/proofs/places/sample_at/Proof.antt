@@ -1,8 +1,9 @@
--- `sample_at` answers the sample in a place's six bytes. Assumes nothing.
-use mir.Syntax.{w16}
+-- `sample_at` answers the sample in a place: its six bytes, two to a number. Assumes nothing.
+use mathlib.Core.Path.{_∙_, sym}
 use Prim.Native.Nat.{_*_}
-use denote.Ref.{now}
+use mir.Syntax.{w16}
 use mir.Facts.{toZ-ofZ}
+use denote.Ref.{now}
 use borrow.Author.Needs.{sfits-of, needs}
 use Rattle.feed.proofs.Samples.{six-bytes}
 use Rattle.feed.proofs.places.sample_at.Statement.{statement}
@@ -11,81 +12,39 @@ use Rattle.feed.proofs.places.sample_at.Tie as tie
 mul-at : tie.Need-mul-at
 mul-at c = search needs
 
-shared-slice-read-signed : tie.Need-shared-slice-read-signed
-shared-slice-read-signed c = search needs
+signed-at-requires : tie.Need-signed-at-requires
+signed-at-requires c κs = search needs
 
-add-signed : tie.Need-add-signed
-add-signed c = search needs
+add-signed-at : tie.Need-add-signed-at
+add-signed-at c = search needs
 
-shared-slice-read-signed-2 : tie.Need-shared-slice-read-signed-2
-shared-slice-read-signed-2 c = search needs
+signed-at-requires-2 : tie.Need-signed-at-requires-2
+signed-at-requires-2 c κs = search needs
 
-signed-requires : tie.Need-signed-requires
-signed-requires c κs = search needs
+add-signed-at-2 : tie.Need-add-signed-at-2
+add-signed-at-2 c = search needs
 
-add-signed-2 : tie.Need-add-signed-2
-add-signed-2 c = search needs
-
-shared-slice-read-signed-3 : tie.Need-shared-slice-read-signed-3
-shared-slice-read-signed-3 c = search needs
-
-add-signed-3 : tie.Need-add-signed-3
-add-signed-3 c = search needs
-
-shared-slice-read-signed-4 : tie.Need-shared-slice-read-signed-4
-shared-slice-read-signed-4 c = search needs
-
-signed-requires-2 : tie.Need-signed-requires-2
-signed-requires-2 c κs = search needs
-
-add-signed-4 : tie.Need-add-signed-4
-add-signed-4 c = search needs
-
-shared-slice-read-signed-5 : tie.Need-shared-slice-read-signed-5
-shared-slice-read-signed-5 c = search needs
-
-add-signed-5 : tie.Need-add-signed-5
-add-signed-5 c = search needs
-
-shared-slice-read-signed-6 : tie.Need-shared-slice-read-signed-6
-shared-slice-read-signed-6 c = search needs
-
-signed-requires-3 : tie.Need-signed-requires-3
-signed-requires-3 c κs = search needs
+signed-at-requires-3 : tie.Need-signed-at-requires-3
+signed-at-requires-3 c κs = search needs
 
 returns : tie.Need-returns
 returns c =
-    let start = c .before .before .before .before .before .before .before .before .before .before in
-    let x = c .before .before .before .before .before .before .signed in
-    let y = c .before .before .before .signed2 in
-    let z = c .signed3 in
-    rw (
-      six-bytes (now (start .args .places)) (6 * start .args .place),
-      toZ-ofZ {w = w16} {z = x .result} (sfits-of (x .ok)),
-      toZ-ofZ {w = w16} {z = y .result} (sfits-of (y .ok)),
-      toZ-ofZ {w = w16} {z = z .result} (sfits-of (z .ok)),
-      x .ensures,
-      y .ensures,
-      z .ensures,
-    )
+    let x = c .before .before .signed-at in
+    let y = c .before .signed-at2 in
+    let z = c .signed-at3 in
+    let a-is = toZ-ofZ {w = w16} {z = x .result} (sfits-of (x .ok)) ∙ x .ensures in
+    let b-is = toZ-ofZ {w = w16} {z = y .result} (sfits-of (y .ok)) ∙ y .ensures in
+    let c-is = toZ-ofZ {w = w16} {z = z .result} (sfits-of (z .ok)) ∙ z .ensures in
+    (λ i. record { a = a-is i; b = b-is i; c = c-is i }) ∙ sym (six-bytes (now (c .before .before .before .before .args .places)) (6 * c .before .before .before .before .args .place))
 
 pub sample-at-spec : {M : Type 1} → statement M
 sample-at-spec =
     tie.close
     (tie.spec
     mul-at
-    shared-slice-read-signed
-    add-signed
-    shared-slice-read-signed-2
-    signed-requires
-    add-signed-2
-    shared-slice-read-signed-3
-    add-signed-3
-    shared-slice-read-signed-4
-    signed-requires-2
-    add-signed-4
-    shared-slice-read-signed-5
-    add-signed-5
-    shared-slice-read-signed-6
-    signed-requires-3
+    signed-at-requires
+    add-signed-at
+    signed-at-requires-2
+    add-signed-at-2
+    signed-at-requires-3
     returns)

@@ -6,7 +6,7 @@ use native.Mathlib.Omega.{arith}
 use lib.ListN.{getD}
 use mir.Syntax.{w64}
 use mir.Val.{SFits}
-use Rattle.model.specs.Angle.{angleOf, arctan, step, steps}
+use Rattle.model.specs.Angle.{arctan, step, steps}
 use Rattle.model.specs.Bounds.{Sized}
 use Rattle.model.specs.declared.angle.Turning.{Turning}
 use Rattle.model.proofs.Stepping.{Within, within-60, within-next, steps-none, steps-more, handed-on}
@@ -39,21 +39,21 @@ steps-left-sub-i : (t : ℕ) → steps-left-lts.Need-sub-i (
 ) (steps-left-at t) steps-left.Post
 steps-left-sub-i t c = omega arith
 
-steps-left-mul-a : (t : ℕ) → steps-left-lts.Need-mul-a (
+steps-left-mul-one-step : (t : ℕ) → steps-left-lts.Need-mul-one-step (
   one-step-reads.Asked,
   one-step-reads.Learnt,
   steps-left-below t,
   steps-left.Post,
 ) (steps-left-at t) steps-left.Post
-steps-left-mul-a t c = omega arith
+steps-left-mul-one-step t c = omega arith
 
-steps-left-element-copy-out-a : (t : ℕ) → steps-left-lts.Need-element-copy-out-a (
+steps-left-element-copy-out-one-step : (t : ℕ) → steps-left-lts.Need-element-copy-out-one-step (
   one-step-reads.Asked,
   one-step-reads.Learnt,
   steps-left-below t,
   steps-left.Post,
 ) (steps-left-at t) steps-left.Post
-steps-left-element-copy-out-a t c = omega arith
+steps-left-element-copy-out-one-step t c = omega arith
 
 steps-left-one-step-requires : (t : ℕ) → steps-left-lts.Need-one-step-requires (
   one-step-reads.Asked,
@@ -65,7 +65,7 @@ unfolding arctan
 steps-left-one-step-requires t c κs =
     let s = c .before .before in
     let left = s .args .left in
-    let v : Turning = record { re = s .args .re; im = s .args .im; angle = angleOf (s .args .parts) } in
+    let v : Turning = record { re = s .args .re; im = s .args .im; angle = s .args .angle } in
     let sized = within-60 (24 - left) (omega arith) (s .pre .1 .1 .0) in
     ((omega arith, ap (λ (l : List ℕ). getD l (24 - left) 0) (s .pre .1 .1 .1)), subst (λ (w : Turning). Sized (2 ^ 60) (w .re) (w .im)) (sym (handed-on v (s .fits .re) (s .fits .im))) sized)
 
@@ -84,11 +84,11 @@ steps-left-steps-left-requires : (t : ℕ) → steps-left-lts.Need-steps-left-re
   steps-left.Post,
 ) (steps-left-at t) steps-left.Post
 steps-left-steps-left-requires t c κs =
-    let s = c .before .before .before .before .before .before in
+    let s = c .before .before .before .before .before in
     let left = s .args .left in
-    let v : Turning = record { re = s .args .re; im = s .args .im; angle = angleOf (s .args .parts) } in
-    let r = c .before .before .before .one-step .result in
-    let next = c .before .before .before .one-step .ensures ∙ ap (step (24 - left)) (handed-on v (s .fits .re) (s .fits .im)) in
+    let v : Turning = record { re = s .args .re; im = s .args .im; angle = s .args .angle } in
+    let r = c .before .before .one-step .result in
+    let next = c .before .before .one-step .ensures ∙ ap (step (24 - left)) (handed-on v (s .fits .re) (s .fits .im)) in
     let sized = within-next left v (omega arith) (s .pre .1 .0) (s .pre .1 .1 .0) in
     let f : SFits w64 (r .re) = search needs in
     let g : SFits w64 (r .im) = search needs in
@@ -102,7 +102,7 @@ steps-left-returns : (t : ℕ) → steps-left-lts.Need-returns (
 ) (steps-left-at t) steps-left.Post
 steps-left-returns t c =
     let s = c .before in
-    ap (λ (v : Turning). v .angle .parts) (sym (steps-none (s .args .left) (record { re = s .args .re; im = s .args .im; angle = angleOf (s .args .parts) }) (c .if1 .taken)))
+    ap (λ (v : Turning). v .angle .parts) (sym (steps-none (s .args .left) (record { re = s .args .re; im = s .args .im; angle = s .args .angle }) (c .if1 .taken)))
 
 steps-left-returns-2 : (t : ℕ) → steps-left-lts.Need-returns-2 (
   one-step-reads.Asked,
@@ -111,11 +111,11 @@ steps-left-returns-2 : (t : ℕ) → steps-left-lts.Need-returns-2 (
   steps-left.Post,
 ) (steps-left-at t) steps-left.Post
 steps-left-returns-2 t c =
-    let s = c .before .before .before .before .before .before .before in
+    let s = c .before .before .before .before .before .before in
     let left = s .args .left in
-    let v : Turning = record { re = s .args .re; im = s .args .im; angle = angleOf (s .args .parts) } in
-    let r = c .before .before .before .before .one-step .result in
-    let next = c .before .before .before .before .one-step .ensures ∙ ap (step (24 - left)) (handed-on v (s .fits .re) (s .fits .im)) in
+    let v : Turning = record { re = s .args .re; im = s .args .im; angle = s .args .angle } in
+    let r = c .before .before .before .one-step .result in
+    let next = c .before .before .before .one-step .ensures ∙ ap (step (24 - left)) (handed-on v (s .fits .re) (s .fits .im)) in
     let f : SFits w64 (r .re) = search needs in
     let g : SFits w64 (r .im) = search needs in
     c .steps-left .ensures
@@ -132,8 +132,8 @@ pub +steps-left-spec : {M : Type 1} → statement M
     (steps-left-at t)
     steps-left.Post
     (steps-left-sub-i t)
-    (steps-left-mul-a t)
-    (steps-left-element-copy-out-a t)
+    (steps-left-mul-one-step t)
+    (steps-left-element-copy-out-one-step t)
     (steps-left-one-step-requires t)
     (steps-left-sub-steps-left t)
     (steps-left-steps-left-requires t)

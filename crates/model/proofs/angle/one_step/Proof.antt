@@ -26,10 +26,10 @@ floor-shift-requires-2 c κs = search needs
 -- what is known once both parts are shifted
 module _ (c : tie.After-floor-shift2) where
   abbrev start : tie.Start
-  start = c .before .before .before .before .before
+  start = c .before .before
 
   abbrev v : Turning
-  v = start .args .v
+  v = record { re = start .args .re; im = start .args .im; angle = start .args .angle }
 
   abbrev i : ℕ
   i = start .args .i
@@ -52,17 +52,23 @@ module _ (c : tie.After-floor-shift2) where
   abbrev im-part : Exp w64
   im-part = local (ofZ w64 (c .floor-shift2 .result)) (floorDiv (v .im) (2 ^ i)) (2 ^ 60) (ap (ofZ w64) im-floor) (within (shift im i))
 
-add-re-above : tie.Need-add-re-above
-add-re-above c = fits (re c ⊕ im-part c) tt
+add-chosen : tie.Need-add-chosen
+add-chosen c = fits (re c ⊕ im-part c) tt
 
-sub-im-above : tie.Need-sub-im-above
-sub-im-above c = fits (im c ⊖ re-part c) tt
+sub-chosen : tie.Need-sub-chosen
+sub-chosen c = fits (re c ⊖ im-part c) tt
 
-sub-re-below : tie.Need-sub-re-below
-sub-re-below c = fits (re c ⊖ im-part c) tt
+chosen-requires : tie.Need-chosen-requires
+chosen-requires c κs = search needs
 
-add-im-below : tie.Need-add-im-below
-add-im-below c = fits (im c ⊕ re-part c) tt
+sub-chosen-2 : tie.Need-sub-chosen-2
+sub-chosen-2 c = fits (im (c .before) ⊖ re-part (c .before)) tt
+
+add-chosen-2 : tie.Need-add-chosen-2
+add-chosen-2 c = fits (im (c .before) ⊕ re-part (c .before)) tt
+
+chosen-requires-2 : tie.Need-chosen-requires-2
+chosen-requires-2 c κs = search needs
 
 more-requires : tie.Need-more-requires
 more-requires c κs = search needs
@@ -70,27 +76,25 @@ more-requires c κs = search needs
 fewer-requires : tie.Need-fewer-requires
 fewer-requires c κs = search needs
 
-chosen-parts-requires : tie.Need-chosen-parts-requires
-chosen-parts-requires c κs = search needs
-
-chosen-requires : tie.Need-chosen-requires
-chosen-requires c κs = search needs
-
-chosen-requires-2 : tie.Need-chosen-requires-2
-chosen-requires-2 c κs = search needs
+chosen-angle-requires : tie.Need-chosen-angle-requires
+chosen-angle-requires c κs = search needs
 
 returns : tie.Need-returns
 returns c =
-    let b = c .before .before .before .before .before in
+    let f = c .before .before .before in
+    let b = f .before .before in
     let a-is = start b .pre .0 .1 in
-    let re-fits : SFits w64 (c .before .chosen .result) = search needs in
-    let im-fits : SFits w64 (c .chosen2 .result) = search needs in
-    let re-is = toZ-ofZ re-fits ∙ c .before .chosen .ensures ∙ λ j. cond (ltZ (pos 0) (at (im b) tt j)) (at (re b ⊕ im-part b) tt j) (cond (ltZ (at (im b) tt j) (pos 0)) (at (re b ⊖ im-part b) tt j) (at (re b) tt j)) in
-    let im-is = toZ-ofZ im-fits ∙ c .chosen2 .ensures ∙ λ j. cond (ltZ (pos 0) (at (im b) tt j)) (at (im b ⊖ re-part b) tt j) (cond (ltZ (at (im b) tt j) (pos 0)) (at (im b ⊕ re-part b) tt j) (at (im b) tt j)) in
-    let more-is = c .before .before .before .before .more .ensures ∙ ap (gains (v b .angle)) a-is in
-    let fewer-is = c .before .before .before .fewer .ensures ∙ ap (loses (v b .angle)) a-is in
-    let parts-is = c .before .before .chosen-parts .ensures ∙ λ j. cond (ltZ (pos 0) (at (im b) tt j)) (more-is j .parts) (cond (ltZ (at (im b) tt j) (pos 0)) (fewer-is j .parts) (v b .angle .parts)) in
-    (λ j. record { re = re-is j; im = im-is j; angle = record { parts = parts-is j } }) ∙ step-chosen (i b) (v b)
+    let re-fits : SFits w64 (f .before .chosen .result) = search needs in
+    let im-fits : SFits w64 (f .chosen2 .result) = search needs in
+    let re-is = toZ-ofZ re-fits ∙ f .before .chosen .ensures
+    ∙ λ j. cond (ltZ (pos 0) (at (im b) tt j)) (at (re b ⊕ im-part b) tt j) (cond (ltZ (at (im b) tt j) (pos 0)) (at (re b ⊖ im-part b) tt j) (at (re b) tt j)) in
+    let im-is = toZ-ofZ im-fits ∙ f .chosen2 .ensures
+    ∙ λ j. cond (ltZ (pos 0) (at (im b) tt j)) (at (im b ⊖ re-part b) tt j) (cond (ltZ (at (im b) tt j) (pos 0)) (at (im b ⊕ re-part b) tt j) (at (im b) tt j)) in
+    let more-is = c .before .before .more .ensures ∙ ap (gains (v b .angle)) a-is in
+    let fewer-is = c .before .fewer .ensures ∙ ap (loses (v b .angle)) a-is in
+    let angle-is = c .chosen-angle .ensures
+    ∙ λ j. cond (ltZ (pos 0) (at (im b) tt j)) (more-is j) (cond (ltZ (at (im b) tt j) (pos 0)) (fewer-is j) (v b .angle)) in
+    (λ j. record { re = re-is j; im = im-is j; angle = angle-is j }) ∙ step-chosen (i b) (v b)
 
 pub one-step-spec : {M : Type 1} → statement M
 one-step-spec =
@@ -98,13 +102,13 @@ one-step-spec =
     (tie.spec
     floor-shift-requires
     floor-shift-requires-2
-    add-re-above
-    sub-im-above
-    sub-re-below
-    add-im-below
+    add-chosen
+    sub-chosen
+    chosen-requires
+    sub-chosen-2
+    add-chosen-2
+    chosen-requires-2
     more-requires
     fewer-requires
-    chosen-parts-requires
-    chosen-requires
-    chosen-requires-2
+    chosen-angle-requires
     returns)

@@ -1,67 +1,25 @@
--- `phase_of` is the phase: scaled, turned and stepped as the definition has it, each within what the next asks. Assumes nothing.
-use mathlib.Core.Path.{refl, sym, _∙_, ap, subst}
+-- `phase_of` is the phase, by whether there is one. Assumes nothing.
+use mathlib.Core.Path.{sym, _∙_}
 use mathlib.Core.Bool.{false}
-use lib.Dec.{lit≤}
-use mir.Syntax.{w64}
-use mir.Val.{SFits}
-use Rattle.model.specs.Angle.{angleOf, steps, turned, phaseAngle}
-use Rattle.model.specs.Bounds.{Sized, cap}
-use Rattle.model.specs.declared.angle.Turning.{Turning}
-use Rattle.model.specs.declared.filter.Phasor.{Phasor}
-use Rattle.model.proofs.Silence.{phase-none, phase-some}
-use Rattle.model.proofs.Quadrant.{turned-sized, scaled-sized}
-use Rattle.model.proofs.Stepping.{Within, within-60, handed-on}
+use Rattle.model.proofs.NoPhase.{phase-none, phase-some}
 use borrow.Author.Needs.{needs}
 use Rattle.model.proofs.angle.phase_of.Statement.{statement}
 use Rattle.model.proofs.angle.phase_of.Tie as tie
 
-is-silent-requires : tie.Need-is-silent-requires
-is-silent-requires c κs = search needs
+has-no-phase-requires : tie.Need-has-no-phase-requires
+has-no-phase-requires c κs = search needs
 
 returns : tie.Need-returns
-returns c = let s = c .before .before in sym (phase-none (s .args .limit) (s .args .p) (sym (c .before .is-silent .ensures) ∙ c .if1 .taken))
+returns c = let s = c .before .before in sym (phase-none (s .args .limit) (s .args .p) (sym (c .before .has-no-phase .ensures) ∙ c .if1 .taken))
 
-times-65536-requires : tie.Need-times-65536-requires
-times-65536-requires c κs = search needs
-
--- what is scaled is where the steps begin
-scaled-is : (c : tie.After-times-65536) → Sized (cap 0) (c .times-65536 .result .re) (c .times-65536 .result .im)
-scaled-is c =
-    let s = c .before .before .before in
-    subst (λ (p : Phasor). Sized (cap 0) (p .re) (p .im)) (sym (c .times-65536 .ensures)) (scaled-sized (s .args .p) (s .pre))
-
-first-quadrant-requires : tie.Need-first-quadrant-requires
-first-quadrant-requires c κs = within-60 0 (lit≤ tt) (scaled-is c)
-
-steps-left-requires : tie.Need-steps-left-requires
-steps-left-requires c κs =
-    let b = c .before .before .before .before in
-    let v = b .first-quadrant .result in
-    let f : SFits w64 (v .re) = search needs in
-    let g : SFits w64 (v .im) = search needs in
-    let sized = turned-sized (cap 0) (b .before .times-65536 .result) (scaled-is (b .before)) in
-    (lit≤ tt, (subst (Within 0) (sym (handed-on v f g ∙ b .first-quadrant .ensures)) sized, refl))
+phase-angle-requires : tie.Need-phase-angle-requires
+phase-angle-requires c κs = search needs
 
 returns-2 : tie.Need-returns-2
-unfolding phaseAngle
 returns-2 c =
-    let b = c .before .before .before .before .before in
-    let s = b .before .before .before .before in
-    let v = b .first-quadrant .result in
-    let f : SFits w64 (v .re) = search needs in
-    let g : SFits w64 (v .im) = search needs in
-    let turned-is = handed-on v f g ∙ b .first-quadrant .ensures ∙ ap turned (b .before .times-65536 .ensures) in
-    let e = c .steps-left .ensures ∙ ap (λ (w : Turning). (steps 24 w) .angle .parts) turned-is in
-    let heard = sym (b .before .before .before .is-silent .ensures) ∙ b .before .before .if1 .left in
-    (λ i. record { angle = angleOf (e i); none = false }) ∙ sym (phase-some (s .args .limit) (s .args .p) heard)
+    let b = c .before .before in
+    let some = phase-some (b .before .args .limit) (b .before .args .p) (sym (b .has-no-phase .ensures) ∙ c .before .if1 .left) in
+    (λ i. record { angle = c .phase-angle .ensures i; none = false }) ∙ sym some
 
 pub phase-of-spec : {M : Type 1} → statement M
-phase-of-spec =
-    tie.close
-    (tie.spec
-    is-silent-requires
-    returns
-    times-65536-requires
-    first-quadrant-requires
-    steps-left-requires
-    returns-2)
+phase-of-spec = tie.close (tie.spec has-no-phase-requires returns phase-angle-requires returns-2)

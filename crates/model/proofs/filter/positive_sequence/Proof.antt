@@ -26,7 +26,7 @@ sub-im c = fits (im (c .before .before)) tt
 returns : tie.Need-returns
 unfolding positive
 returns c =
-    let b = c .before .before in
+    let b = c .before .before .before in
     let a = b .before .before .before .args in
     let re-is = b .weighted-sums .ensures .0 ∙ weighted-turn (a .samples) (a .index) cosines in
     let minus-is = b .weighted-sums .ensures .1 .0 ∙ weighted-turn (a .samples) (a .index) sines in (

@@ -6,7 +6,7 @@ use lib.IntN.{ℤ, pos, natAbs, _*ℤ_}
 use mir.Syntax.{w64}
 use Rattle.ints.proofs.Size.{size-mul-le}
 use Rattle.ints.proofs.Signed.{Exp, count, whole, _⊗_, at, fits}
-use Rattle.model.specs.Filter.{weight}
+use Rattle.model.specs.Filter.{weight, offset}
 use Rattle.model.proofs.Weights.{weight-within}
 use borrow.Author.Needs.{needs}
 use Rattle.model.proofs.filter.term_of.Statement.{statement}
@@ -18,14 +18,14 @@ weight-of-requires c κs = search needs
 abbrev g : tie.After-weight-of → Exp w64
 g c = count (c .weight-of .result) 15 (omega (arith, c .weight-of .ensures, weight-within (c .before .args .j)))
 
-abbrev product : tie.After-three-entries → Exp w64
-product c = g (c .before) ⊗ whole (c .three-entries .result) 1610612736 (c .three-entries .ensures .1)
+abbrev product : tie.After-phase-sum → Exp w64
+product c = g (c .before) ⊗ whole (c .phase-sum .result) 1610612736 (c .phase-sum .ensures .1)
 
 cast-g : tie.Need-cast-g
 cast-g c = fits (g c) tt
 
-three-entries-requires : tie.Need-three-entries-requires
-three-entries-requires c κs = search needs
+phase-sum-requires : tie.Need-phase-sum-requires
+phase-sum-requires c κs = search needs
 
 mul-result : tie.Need-mul-result
 mul-result c = fits (product c) tt
@@ -33,12 +33,12 @@ mul-result c = fits (product c) tt
 returns : tie.Need-returns
 returns c =
     let w = c .before .weight-of in
-    let x = c .three-entries in
+    let x = c .phase-sum in
     let e = at (product c) tt in (
       e ∙ ap₂ (λ (n : ℕ) (z : ℤ). pos n *ℤ z) (w .ensures) (x .ensures .0),
-      subst (λ (z : ℤ). natAbs z ≤ weight (c .before .before .args .j) * 1610612736) (sym e) (size-mul-le (pos (w .result)) (x .result) (omega (arith, w .ensures)) (x .ensures .1)),
+      subst (λ (z : ℤ). natAbs z ≤ weight (offset (c .before .before .args .j)) * 1610612736) (sym e) (size-mul-le (pos (w .result)) (x .result) (omega (arith, w .ensures)) (x .ensures .1)),
     )
 
 pub term-of-spec : {M : Type 1} → statement M
 term-of-spec =
-    tie.close (tie.spec weight-of-requires cast-g three-entries-requires mul-result returns)
+    tie.close (tie.spec weight-of-requires cast-g phase-sum-requires mul-result returns)

@@ -1,6 +1,6 @@
 -- `weighted_sums` is both sums: after j terms each local holds its sum of the first j, and the entry is that of the next sample. Assumes nothing.
 use mathlib.Core.Path.{_≡_}
-use Prim.Native.Nat.{_+_, _-_, _%_, _≤_, _<_}
+use Prim.Native.Nat.{_+_, _-_, _%_, _≤_}
 use native.Mathlib.Omega.{arith}
 use lib.Dec.{lit≤}
 use Rattle.model.proofs.Summing.{Holds, holds-none, More, one-more, all-is, all-small}
@@ -32,29 +32,22 @@ term-of-requires c κs = (omega (arith, c .before .before .loop .inv .1), (omega
 term-of-requires-2 : tie.Need-term-of-requires-2 Inv-loop μ-loop
 term-of-requires-2 c κs = (omega (arith, c .before .before .before .loop .inv .1), (omega arith, c .before .before .before .before .pre .1 .1))
 
--- what is known once both terms are there
-module _ (c : tie.After-term-of2 Inv-loop μ-loop) where
-  abbrev start : tie.Start Inv-loop μ-loop
-  start = c .before .before .before .before .before
+-- one term more, with the cosines and with the sines
+cosine-more : (c : tie.After-term-of Inv-loop μ-loop) → let a = c .before .before .before .before .args in let l = c .before .before .before .loop in
+    More (a .cosines .now) (a .t1) (a .n) (l .cosine) (l .j) (c .term-of .result)
+cosine-more c =
+    let a = c .before .before .before .before .args in
+    let l = c .before .before .before .loop in
+    let x = c .term-of in
+    one-more (a .cosines .now) (a .t1) (a .n) (l .cosine) (l .j) (l .m) (x .result) (l .inv .2) (omega arith) (l .inv .1) (x .ensures .0) (x .ensures .1)
 
-  inside : c .before .before .before .before .loop .j < 29
-  inside = omega arith
-
-  cosine-more : let a = start .args in let l = c .before .before .before .before .loop in
-      More (a .cosines .now) (a .t1) (a .n) (l .cosine) (l .j) (c .before .term-of .result)
-  cosine-more =
-      let a = start .args in
-      let l = c .before .before .before .before .loop in
-      let x = c .before .term-of in
-      one-more (a .cosines .now) (a .t1) (a .n) (l .cosine) (l .j) (l .m) (x .result) (l .inv .2) inside (l .inv .1) (x .ensures .0) (x .ensures .1)
-
-  sine-more : let a = start .args in let l = c .before .before .before .before .loop in
-      More (a .sines .now) (a .t1) (a .n) (l .sine) (l .j) (c .term-of2 .result)
-  sine-more =
-      let a = start .args in
-      let l = c .before .before .before .before .loop in
-      let x = c .term-of2 in
-      one-more (a .sines .now) (a .t1) (a .n) (l .sine) (l .j) (l .m) (x .result) (l .inv .3) inside (l .inv .1) (x .ensures .0) (x .ensures .1)
+sine-more : (c : tie.After-term-of2 Inv-loop μ-loop) → let a = c .before .before .before .before .before .args in let l = c .before .before .before .before .loop in
+    More (a .sines .now) (a .t1) (a .n) (l .sine) (l .j) (c .term-of2 .result)
+sine-more c =
+    let a = c .before .before .before .before .before .args in
+    let l = c .before .before .before .before .loop in
+    let x = c .term-of2 in
+    one-more (a .sines .now) (a .t1) (a .n) (l .sine) (l .j) (l .m) (x .result) (l .inv .3) (omega arith) (l .inv .1) (x .ensures .0) (x .ensures .1)
 
 add-cosine : tie.Need-add-cosine Inv-loop μ-loop
 add-cosine c = cosine-more c .0
@@ -74,7 +67,7 @@ loop-less c = omega arith
 loop-again : tie.Need-loop-again Inv-loop μ-loop
 loop-again c =
     let l = c .before .before .before .before .before .loop in
-    (omega arith, omega (arith, c .one-on .ensures, l .inv .1), cosine-more (c .before) .1, sine-more (c .before) .1)
+    (omega arith, omega (arith, c .one-on .ensures, l .inv .1), cosine-more (c .before .before) .1, sine-more (c .before) .1)
 
 returns : tie.Need-returns Inv-loop μ-loop
 returns c =
@@ -103,8 +96,8 @@ weighted-sums-spec =
     mul-s
     array-copy-out-s
     term-of-requires
-    term-of-requires-2
     add-cosine
+    term-of-requires-2
     add-sine
     one-on-requires
     add-j

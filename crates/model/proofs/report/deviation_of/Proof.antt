@@ -8,7 +8,7 @@ use lib.IntN.{ℤ, pos, _*ℤ_}
 use mir.Syntax.{w32, w64}
 use Rattle.ints.proofs.Signed.{Exp, cast, count, _⊗_, at, fits, sized}
 use Rattle.model.specs.Report.{over}
-use Rattle.model.proofs.Samplings.{sampling-within}
+use Rattle.sampling.proofs.Samplings.{sampling-within}
 use borrow.Author.Needs.{needs}
 use Rattle.model.proofs.report.deviation_of.Statement.{statement}
 use Rattle.model.proofs.report.deviation_of.Tie as tie

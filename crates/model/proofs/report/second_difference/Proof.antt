@@ -1,7 +1,7 @@
 -- `second_difference` is (r - q) - (q - p), which is r - 2q + p. Assumes nothing.
 use mathlib.Core.Path.{_∙_, ap₂}
 use native.Mathlib.Omega.{arith}
-use Rattle.model.specs.Report.{minus, minusTwice}
+use Rattle.model.specs.Report.{secondDifference}
 use Rattle.model.proofs.Turns.{less, wrapped, less-twice}
 use borrow.Author.Needs.{needs}
 use Rattle.model.proofs.report.second_difference.Statement.{statement}
@@ -17,7 +17,7 @@ wrapping-sub-u32-requires : tie.Need-wrapping-sub-u32-requires
 wrapping-sub-u32-requires c κs = search needs
 
 returns : tie.Need-returns
-unfolding minus minusTwice
+unfolding secondDifference
 returns c =
     let s = c .before .before .before in
     let later = c .before .before .difference in

@@ -1,10 +1,14 @@
--- `phs::line::put_head` meets its contract: the form filled is the line. Assumes nothing.
+-- `phs::line::put_head` meets its contract: the form filled with the counts is the line. Assumes nothing.
+use mathlib.Core.List.{[], _∷_, _++_}
+use Rattle.phs.specs.Lines.{phsWord, headLine}
+use Rattle.phs.proofs.Putting.{words-written}
 use native.Mathlib.Omega.{arith}
 use borrow.Author.Needs.{needs}
-use Rattle.phs.specs.Lines.{headLine}
-use Rattle.phs.proofs.Putting.{line-written}
 use Rattle.phs.proofs.line.put_head.Statement.{statement}
 use Rattle.phs.proofs.line.put_head.Tie as tie
+
+counts-requires : tie.Need-counts-requires
+counts-requires c κs = search needs
 
 slice-aggregate-put : tie.Need-slice-aggregate-put
 slice-aggregate-put c = search needs
@@ -17,7 +21,8 @@ same-length c = search needs
 
 returns : tie.Need-returns
 unfolding headLine
-returns c = line-written (c .before .before .put .ensures) (omega arith) (c .before .before .before .before .before .before .pre)
+returns c = words-written (phsWord ++ (32 ∷ 37 ∷ 32 ∷ 37 ∷ 32 ∷ 37 ∷ 10 ∷ [])) (c .before .before .before .before .before .counts .ensures) (c .before .before .put .ensures) (omega arith) (c .before .before .before .before .before .before .before .pre)
 
 pub put-head-spec : {M : Type 1} → statement M
-put-head-spec = tie.close (tie.spec slice-aggregate-put put-requires same-length returns)
+put-head-spec =
+    tie.close (tie.spec counts-requires slice-aggregate-put put-requires same-length returns)

@@ -1,86 +1,68 @@
--- `phs::sample::sample_at` meets its contract: the six bytes, two to a number. Assumes nothing.
-use borrow.Author.Needs.{sfits-of, needs}
-use mir.Syntax.{w16}
-use mir.Facts.{toZ-ofZ}
+-- `phs::sample::sample_at` meets its contract: the six bytes, one by one. Assumes nothing.
+use mathlib.Core.Path.{sym, _∙_}
 use denote.Ref.{now}
+use borrow.Author.Needs.{needs}
+use Rattle.feed.specs.Places.{sampleOf}
 use Rattle.phs.proofs.Six.{six-from}
 use Rattle.phs.proofs.sample.sample_at.Statement.{statement}
 use Rattle.phs.proofs.sample.sample_at.Tie as tie
 
-shared-slice-read-signed : tie.Need-shared-slice-read-signed
-shared-slice-read-signed c = search needs
+shared-slice-read-t4 : tie.Need-shared-slice-read-t4
+shared-slice-read-t4 c = search needs
 
-add-signed : tie.Need-add-signed
-add-signed c = search needs
+add-t5 : tie.Need-add-t5
+add-t5 c = search needs
 
-shared-slice-read-signed-2 : tie.Need-shared-slice-read-signed-2
-shared-slice-read-signed-2 c = search needs
+shared-slice-read-t7 : tie.Need-shared-slice-read-t7
+shared-slice-read-t7 c = search needs
 
-signed-requires : tie.Need-signed-requires
-signed-requires c κs = search needs
+add-t8 : tie.Need-add-t8
+add-t8 c = search needs
 
-add-signed-2 : tie.Need-add-signed-2
-add-signed-2 c = search needs
+shared-slice-read-t10 : tie.Need-shared-slice-read-t10
+shared-slice-read-t10 c = search needs
 
-shared-slice-read-signed-3 : tie.Need-shared-slice-read-signed-3
-shared-slice-read-signed-3 c = search needs
+add-t11 : tie.Need-add-t11
+add-t11 c = search needs
 
-add-signed-3 : tie.Need-add-signed-3
-add-signed-3 c = search needs
+shared-slice-read-t13 : tie.Need-shared-slice-read-t13
+shared-slice-read-t13 c = search needs
 
-shared-slice-read-signed-4 : tie.Need-shared-slice-read-signed-4
-shared-slice-read-signed-4 c = search needs
+add-t14 : tie.Need-add-t14
+add-t14 c = search needs
 
-signed-requires-2 : tie.Need-signed-requires-2
-signed-requires-2 c κs = search needs
+shared-slice-read-t16 : tie.Need-shared-slice-read-t16
+shared-slice-read-t16 c = search needs
 
-add-signed-4 : tie.Need-add-signed-4
-add-signed-4 c = search needs
+add-t17 : tie.Need-add-t17
+add-t17 c = search needs
 
-shared-slice-read-signed-5 : tie.Need-shared-slice-read-signed-5
-shared-slice-read-signed-5 c = search needs
+shared-slice-read-t19 : tie.Need-shared-slice-read-t19
+shared-slice-read-t19 c = search needs
 
-add-signed-5 : tie.Need-add-signed-5
-add-signed-5 c = search needs
-
-shared-slice-read-signed-6 : tie.Need-shared-slice-read-signed-6
-shared-slice-read-signed-6 c = search needs
-
-signed-requires-3 : tie.Need-signed-requires-3
-signed-requires-3 c κs = search needs
+sample-of-requires : tie.Need-sample-of-requires
+sample-of-requires c κs = search needs
 
 returns : tie.Need-returns
+unfolding sampleOf
 returns c =
-    let start = c .before .before .before .before .before .before .before .before .before .before in
-    let x = c .before .before .before .before .before .before .signed in
-    let y = c .before .before .before .signed2 in
-    let z = c .signed3 in
-    rw (
-      six-from (now (start .args .bytes)) (start .args .i),
-      toZ-ofZ {w = w16} {z = x .result} (sfits-of (x .ok)),
-      toZ-ofZ {w = w16} {z = y .result} (sfits-of (y .ok)),
-      toZ-ofZ {w = w16} {z = z .result} (sfits-of (z .ok)),
-      x .ensures,
-      y .ensures,
-      z .ensures,
-    )
+    let start = c .before .before .before .before .before .before .before .before in
+    c .sample-of .ensures ∙ sym (six-from (now (start .args .bytes)) (start .args .i))
 
 pub sample-at-spec : {M : Type 1} → statement M
 sample-at-spec =
     tie.close
     (tie.spec
-    shared-slice-read-signed
-    add-signed
-    shared-slice-read-signed-2
-    signed-requires
-    add-signed-2
-    shared-slice-read-signed-3
-    add-signed-3
-    shared-slice-read-signed-4
-    signed-requires-2
-    add-signed-4
-    shared-slice-read-signed-5
-    add-signed-5
-    shared-slice-read-signed-6
-    signed-requires-3
+    shared-slice-read-t4
+    add-t5
+    shared-slice-read-t7
+    add-t8
+    shared-slice-read-t10
+    add-t11
+    shared-slice-read-t13
+    add-t14
+    shared-slice-read-t16
+    add-t17
+    shared-slice-read-t19
+    sample-of-requires
     returns)

@@ -10,8 +10,8 @@ use Rattle.verdict.proofs.judging.verdict_on.Tie as tie
 cast-percent : tie.Need-cast-percent
 cast-percent c = search needs
 
-mul-vector : tie.Need-mul-vector
-mul-vector c = search needs
+mul-error : tie.Need-mul-error
+mul-error c = search needs
 
 mul-allowed : tie.Need-mul-allowed
 mul-allowed c =
@@ -21,7 +21,7 @@ mul-allowed c =
 mul-allowed-2 : tie.Need-mul-allowed-2
 mul-allowed-2 c =
     let s = c .before .before .before in
-    record { fits = omega (arith, allowed-within (s .args .limits .tve) (s .args .errors .magnitude) (search needs) (s .pre .magnitude-in)) }
+    record { fits = omega (arith, allowed-within (s .args .limits .tve) (s .args .errors .«reference_squared») (search needs) (s .pre .reference-in)) }
 
 cast-t6 : tie.Need-cast-t6
 cast-t6 c = search needs
@@ -35,4 +35,4 @@ returns c = refl
 
 pub verdict-on-spec : {M : Type 1} → statement M
 verdict-on-spec =
-    tie.close (tie.spec cast-percent mul-vector mul-allowed mul-allowed-2 cast-t6 cast-t9 returns)
+    tie.close (tie.spec cast-percent mul-error mul-allowed mul-allowed-2 cast-t6 cast-t9 returns)

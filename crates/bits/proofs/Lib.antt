@@ -1,0 +1,3 @@
+-- The laws of `bits`.
+pub mod Unique
+pub mod Reading

@@ -1,0 +1,2 @@
+-- The definitions of `bits`.
+pub mod Bits

@@ -1,0 +1,31 @@
+-- No part of any promise: what the functions of the crate answer one another, the report that comes with a sample told of the head before the sample.
+use mathlib.Core.Bool.{Bool, _&&_}
+use mathlib.Core.List.{List}
+use Prim.Native.Nat.{ℕ, _-_, _/_, _%_}
+use lib.Dec.{leb, eqb}
+use Rattle.model.specs.declared.filter.Sample.{Sample}
+use Rattle.model.specs.Filter.{windowed}
+use Rattle.model.specs.Report.{figuresAt, threePhase}
+use Rattle.feed.specs.declared.Head.{Head}
+use Rattle.feed.specs.declared.Centre.{Centre}
+use Rattle.sampling.specs.Tags.{nominalOf, spacing, socOf, indexOf}
+use Rattle.feed.specs.Answers.{Said, tagged}
+use Rattle.feed.specs.Ring.{nextNumberOf}
+
+-- the number of the sample 15 before the next one
+abbrev pub centreNumber : Head → ℕ
+centreNumber h = nextNumberOf h - 15
+
+-- where it stands
+abbrev pub centreAt : Head → Centre
+centreAt h = record { soc = socOf (h .nominal) (centreNumber h); index = indexOf (h .nominal) (centreNumber h) }
+
+-- whether a report comes with the next sample
+unfoldable pub dueWith : Head → Bool
+dueWith h = leb 30 (h .held) && eqb (centreAt h .index % spacing (h .nominal) (h .rate)) 0
+
+-- that report, of the thirty-one samples that are then held
+unfoldable pub reportWith : Head → List Sample → Said
+reportWith h window =
+    tagged (centreAt h .soc) (centreAt h .index / spacing (h .nominal) (h .rate))
+    (figuresAt threePhase (nominalOf (h .nominal)) (windowed window (nextNumberOf h - 30)) (centreNumber h))

@@ -1,0 +1,40 @@
+-- The refusals of a header one by one, in their order, and what a header that passes them opens. Assumes nothing.
+use mathlib.Core.Path.{_≡_}
+use mathlib.Core.Bool.{true, false, _||_}
+use mathlib.Core.List.{List}
+use Prim.Native.Nat.{ℕ, _≤_, _<_}
+use lib.Dec.{eqb}
+use lib.ListN.{length}
+use borrow.Author.Tests.{lt-ltb, le-ltb, eq-eqb, ne-eqb}
+use Rattle.sampling.specs.Tags.{servedNominal, servedRate, keptRate}
+use Rattle.header.specs.Header.{refused, opens, headed, isMark, versionIn, nominalIn, rateIn, socIn}
+
+module _ (h : List ℕ) where
+  pub too-short : length h < 11 → refused 14 ≡ headed h
+  unfolding headed
+  too-short l = rw (lt-ltb (length h) 11 l)
+
+  module _ (long : 11 ≤ length h) where
+    pub no-mark : isMark h ≡ false → refused 12 ≡ headed h
+    unfolding headed
+    no-mark m = rw (le-ltb (length h) 11 long, m)
+
+    module _ (marked : isMark h ≡ true) where
+      pub no-version : (versionIn h ≡ 1 → ⊥) → refused 13 ≡ headed h
+      unfolding headed
+      no-version v = rw (le-ltb (length h) 11 long, marked, ne-eqb (versionIn h) 1 v)
+
+      module _ (first : versionIn h ≡ 1) where
+        pub no-nominal : servedNominal (nominalIn h) ≡ false → refused 6 ≡ headed h
+        unfolding headed
+        no-nominal n = rw (le-ltb (length h) 11 long, marked, eq-eqb (versionIn h) 1 first, n)
+
+        module _ (served : servedNominal (nominalIn h) ≡ true) where
+          pub no-rate : (servedRate (nominalIn h) (rateIn h) || eqb (rateIn h) 0) ≡ false → refused 7 ≡ headed h
+          unfolding headed
+          no-rate r = rw (le-ltb (length h) 11 long, marked, eq-eqb (versionIn h) 1 first, served, r)
+
+          pub all-passed : (servedRate (nominalIn h) (rateIn h) || eqb (rateIn h) 0) ≡ true
+              → opens (versionIn h) (nominalIn h) (keptRate (nominalIn h) (rateIn h)) (socIn h) ≡ headed h
+          unfolding headed
+          all-passed r = rw (le-ltb (length h) 11 long, marked, eq-eqb (versionIn h) 1 first, served, r)

@@ -1,0 +1,72 @@
+-- Document 01, "PHS files and the listing": the header of a file, and its refusals in their order.
+use mathlib.Core.Path.{_≡_}
+use mathlib.Core.Bool.{Bool, not, _&&_}
+use mathlib.Core.List.{List, [], _∷_}
+use Prim.Native.Nat.{ℕ}
+use lib.Dec.{eqb, ltb}
+use lib.ListN.{length, getD}
+use Rattle.refusals.specs.Refusals.{Refusal, unlessRefused}
+use Rattle.sampling.specs.Tags.{keptRate, noNominal, noRate}
+use Rattle.bits.specs.Bits.{be16, be32}
+use Rattle.header.specs.declared.Header.{Header}
+use Rattle.header.specs.declared.Header.the-variants.{Refused, Opens}
+
+-- ---- Header, 11 bytes: "PHS", version (16 bits, 1), nominal, rate, SOC (32 bits), big-endian
+
+-- bytes 0 to 2 are "PHS"
+unfoldable pub isMark : List ℕ → Bool
+isMark h = eqb (getD h 0 0) 80 && eqb (getD h 1 0) 72 && eqb (getD h 2 0) 83
+
+-- bytes 3 and 4
+unfoldable pub versionIn : List ℕ → ℕ
+versionIn h = be16 (getD h 3 0) (getD h 4 0)
+
+-- byte 5
+abbrev pub nominalIn : List ℕ → ℕ
+nominalIn h = getD h 5 0
+
+-- byte 6
+abbrev pub rateIn : List ℕ → ℕ
+rateIn h = getD h 6 0
+
+-- bytes 7 to 10
+unfoldable pub socIn : List ℕ → ℕ
+socIn h = be32 (getD h 7 0) (getD h 8 0) (getD h 9 0) (getD h 10 0)
+
+-- ---- the refusals
+
+-- 14: fewer than 11 header bytes
+abbrev pub tooShort : List ℕ → Refusal
+tooShort h = record { number = 14; due = ltb (length h) 11 }
+
+-- 12: mark not PHS
+abbrev pub noMark : List ℕ → Refusal
+noMark h = record { number = 12; due = not (isMark h) }
+
+-- 13: version not 1
+abbrev pub noVersion : List ℕ → Refusal
+noVersion h = record { number = 13; due = not (eqb (versionIn h) 1) }
+
+-- header 14, 12, 13, 6, 7
+abbrev pub headerRefusals : List ℕ → List Refusal
+headerRefusals h = tooShort h ∷ noMark h ∷ noVersion h ∷ noNominal (nominalIn h) ∷ noRate (nominalIn h) (rateIn h) ∷ []
+
+-- ---- what a header says
+
+-- its refusal, or the version and what it opens a feed with
+pub data Said : Type 0 where
+  refused : (number : ℕ) → Said
+  opens : (version nominal rate soc : ℕ) → Said
+
+-- each case of the answer
+abbrev pub said : Header → Said
+said (Refused number) = refused number
+said (Opens version nominal rate soc) = opens version nominal rate soc
+
+-- a header that is not refused opens a feed; the rate is the one kept
+unfoldable pub headed : List ℕ → Said
+headed h = unlessRefused (headerRefusals h) refused (opens (versionIn h) (nominalIn h) (keptRate (nominalIn h) (rateIn h)) (socIn h))
+
+-- what `read_header` promises
+abbrev pub Heading : List ℕ → Header → Type 0
+Heading h r = said r ≡ headed h

@@ -1,0 +1,2 @@
+-- The definitions of `header`.
+pub mod Header

@@ -1,0 +1,3 @@
+-- The laws of `sampling`.
+pub mod Unique
+pub mod Samplings

@@ -1,0 +1,3 @@
+-- The definitions of `sampling`: document 01, "Sampling and tags".
+pub mod Sampling
+pub mod Tags
