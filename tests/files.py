@@ -3,6 +3,7 @@
 make SEED COUNT DIR           writes NNN.phs and its listing NNN.txt
 compare PROGRAM [SEED COUNT]  feeds such files to the program in pieces and compares its listings
 examples DIR                  writes a few short example files and their listings
+gate FILE LISTING             writes the file that the gate runs the program on, and its listing
 """
 
 import os
@@ -14,7 +15,7 @@ import tempfile
 
 from commands import SHOWN, dispatch
 from inputs import any_sample, any_wave, opening_pairs, sample_at, steady_wave
-from reference import HEADER_BYTES, LAST_SOC, SERVED, kept_rate, listing, sampling
+from reference import HEADER_BYTES, LAST_SOC, SERVED, cos, kept_rate, listing, sampling
 
 PIECES = (None, 1, 4095, 65537)
 
@@ -206,15 +207,35 @@ def step(nominal, rate, seconds, factor, turns):
     return header(nominal, rate) + body(before + after)
 
 
+def document():
+    """The file of document 01's whole listing: 31 samples of the cosine table at 60 Hz."""
+    return header(60, 60) + body([(cos(n), cos(n - 5), cos(n - 10)) for n in range(31)])
+
+
 def example_files():
     """The examples by name."""
     return {
+        "document": document(),
         "steady": steady(50, 50, 0.4),
         "off_nominal": off_nominal(60, 30, 0.5, -0.75),
         "ramp": ramp(50, 25, 1, 1.0),
         "step": step(60, 60, 0.5, 1.1, 1 / 36),
         "cut_short": steady(60, 0, 0.4)[:-2],
     }
+
+
+# ---------------------------------------------------------------------------
+# The file that the gate runs the program on
+
+def gate_file():
+    """The document's file gone on with: waves, noise and silence of three phases, over two reads of 65536 bytes, each of
+    which ends inside a sample."""
+    rng = random.Random(2011)
+    data = document()
+    while len(data) < 132000:
+        count = rng.randint(40, 900)
+        data += rng.choice((any_body(rng, 60, count), bytes(6 * count)))
+    return data
 
 
 # ---------------------------------------------------------------------------
@@ -240,6 +261,14 @@ def examples(directory):
     os.makedirs(directory, exist_ok=True)
     for name, data in example_files().items():
         write(directory, name, data)
+
+
+def gate(file_name, listing_name):
+    """Writes the file of the gate and its listing."""
+    data = gate_file()
+    for name, content in ((file_name, data), (listing_name, listing(data))):
+        with open(name, "wb") as file:
+            file.write(content)
 
 
 def printed_by(program, data, size):
@@ -276,4 +305,4 @@ def compare(program, seed=1, count=200):
 
 
 if __name__ == "__main__":
-    dispatch(__doc__, make, compare, examples)
+    dispatch(__doc__, make, compare, examples, gate)
