@@ -44,10 +44,7 @@ fn signed_at(bytes: &[u8], at: usize) -> i16
 pub fn sample_of(p: [u8; 6]) -> Sample
     ensures { λ r. ⌜ r ≡ sampleOf p ⌝ }
 {
-    let a = signed_at(&p, 0);
-    let b = signed_at(&p, 2);
-    let c = signed_at(&p, 4);
-    Sample { a, b, c }
+    sample_at(&p, 0)
 }
 
 // The sample in a place.
