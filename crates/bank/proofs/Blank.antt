@@ -1,7 +1,7 @@
 -- Blank bytes: of two parts, of zeros, and what a blank list is. By the list's length. Assumes nothing.
-use mathlib.Core.Path.{_≡_, refl, sym, ap, _∙_}
+use mathlib.Core.Path.{_≡_, refl, sym, ap}
 use mathlib.Core.Bool.{Bool, true, false, _&&_}
-use mathlib.Core.List.{List, [], _∷_, _++_}
+use mathlib.Core.List.{List, [], _∷_}
 use Prim.Native.Nat.{ℕ, zero, suc}
 use native.Mathlib.Omega.{arith}
 use lib.Dec.{eqb}
@@ -24,11 +24,6 @@ and-true false = refl
 pub and-assoc : (t u v : Bool) → ((t && u) && v) ≡ (t && (u && v))
 and-assoc true u v = refl
 and-assoc false u v = refl
-
-pub blank-append : (s t : List ℕ) → blank (s ++ t) ≡ (blank s && blank t)
-unfolding blank
-blank-append [] t = refl
-blank-append (b ∷ s) t = ap (λ (r : Bool). eqb b 0 && r) (blank-append s t) ∙ sym (and-assoc (eqb b 0) (blank s) (blank t))
 
 pub zeros-blank : (n : ℕ) → blank (zeros n) ≡ true
 unfolding blank zeros

@@ -12,12 +12,6 @@ use mir.Facts.{toZ-pos}
 use borrow.Author.Tests.{ltb-true}
 use Rattle.bits.specs.Bits.{bits16}
 
--- a signed number's bits
-pub bits-are : (z : ℤ) → ofZ w16 z ≡ bits16 z
-unfolding bits16
-bits-are (pos n) = refl
-bits-are (negsuc n) = refl
-
 -- y is a natural number, and the complement of its bits are the bits of x
 pub record Complement (x y : ℤ) : Type 0 where
   pub up : T (nonNeg y)

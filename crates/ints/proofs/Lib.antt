@@ -5,5 +5,4 @@ pub mod Sum
 pub mod Floor
 pub mod Signed
 pub mod Every
-pub mod Table
 pub mod Cases

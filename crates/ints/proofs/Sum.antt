@@ -3,9 +3,8 @@ use mathlib.Core.Path.{_≡_, refl, sym, _∙_, ap, ap₂}
 use Prim.Native.Nat.{ℕ, zero, suc, _+_, _≤_, _<_, zero-le}
 use native.Mathlib.Nat.{add-zero, add-suc, le-refl, lt-of-lt-of-le, le-suc}
 use native.Mathlib.Omega.{arith}
-use lib.IntN.{ℤ, pos, natAbs, _+ℤ_, _*ℤ_, +ℤ-assoc, +ℤ-idr, *ℤ-zero}
+use lib.IntN.{ℤ, natAbs, _+ℤ_, +ℤ-assoc, +ℤ-idr}
 use Rattle.ints.specs.Whole.{sum}
-use Rattle.ints.proofs.Ring.{swap-middle, mul-add}
 use Rattle.ints.proofs.Size.{size-add}
 
 -- terms that agree below n
@@ -13,17 +12,6 @@ pub sum-ext : (n : ℕ) (f g : ℕ → ℤ) → ((j : ℕ) → j < n → f j ≡
 unfolding sum
 sum-ext zero f g e = refl
 sum-ext (suc n) f g e = ap₂ (λ (x y : ℤ). x +ℤ y) (sum-ext n f g (λ j h. e j (lt-of-lt-of-le h (le-suc n)))) (e n (le-refl (suc n)))
-
-pub sum-add : (n : ℕ) (f g : ℕ → ℤ) → sum n (λ j. f j +ℤ g j) ≡ sum n f +ℤ sum n g
-unfolding sum
-sum-add zero f g = refl
-sum-add (suc n) f g = ap (λ (x : ℤ). x +ℤ (f n +ℤ g n)) (sum-add n f g) ∙ swap-middle (sum n f) (sum n g) (f n) (g n)
-
--- a factor that all terms share
-pub sum-mul : (n : ℕ) (a : ℤ) (f : ℕ → ℤ) → sum n (λ j. a *ℤ f j) ≡ a *ℤ sum n f
-unfolding sum
-sum-mul zero a f = sym (*ℤ-zero a)
-sum-mul (suc n) a f = ap (λ (x : ℤ). x +ℤ a *ℤ f n) (sum-mul n a f) ∙ sym (mul-add a (sum n f) (f n))
 
 -- the first m terms, and then n more
 pub sum-split : (m n : ℕ) (f : ℕ → ℤ) → sum (m + n) f ≡ sum m f +ℤ sum n (λ j. f (m + j))
@@ -41,8 +29,3 @@ sum-size (suc n) f total h =
     let p : natAbs (sum n f) ≤ total n = sum-size n f total (λ j l. h j (lt-of-lt-of-le l (le-suc n))) in
     let q : total n + natAbs (f n) ≤ total (suc n) = h n (le-refl (suc n)) in
     omega (arith, size-add (sum n f) (f n))
-
-pub sum-none : (n : ℕ) (f : ℕ → ℤ) → ((j : ℕ) → j < n → f j ≡ pos 0) → sum n f ≡ pos 0
-unfolding sum
-sum-none zero f e = refl
-sum-none (suc n) f e = ap₂ (λ (x y : ℤ). x +ℤ y) (sum-none n f (λ j h. e j (lt-of-lt-of-le h (le-suc n)))) (e n (le-refl (suc n)))

@@ -1,27 +1,21 @@
 -- A line that `text` puts where there is room for it is written. Assumes nothing.
 use Prim.Native.Nat.{ℕ, _+_, _≤_}
 use mathlib.Core.Path.{_≡_, ap, _∙_, subst}
-use mathlib.Core.Bool.{Bool, cond}
 use mathlib.Core.List.{List}
 use native.Mathlib.Omega.{arith}
-use borrow.Author.Tests.{le-leb}
 use lib.ListN.{length}
 use lib.IntN.{ℤ}
 use mir.Syntax.{w32, w64}
 use mir.Val.{SFits, toZ, ofZ}
 use mir.Facts.{toZ-ofZ, sfits-widen}
-use lib.Seq.{sets}
 use Rattle.text.specs.declared.Word.{Word}
 use Rattle.text.specs.Put.{Put, Wrote, filled, roomFor}
 use Rattle.phs.specs.Lines.{lineRoom}
+use Rattle.text.proofs.Writing.{wider, put-wrote}
 
 pub line-written : {room at r : ℕ} {text before after : List ℕ} → Put room text before at r after → room ≤ lineRoom → at + lineRoom ≤ length before
     → Wrote lineRoom text before at r after
-line-written {room} {at} {r} {text} {before} {after} p short fits =
-    let e : _≡_ {A = ℕ × List ℕ} (r, after) (at + length text, sets before at text) =
-    p .outcome ∙ ap (λ (t : Bool). cond t (at + length text, sets before at text) (at, before)) (le-leb (at + room) (length before) (omega arith)) in
-    let n : r ≡ at + length text = ap (λ (x : ℕ × List ℕ). x .0) e in
-    record { ends = n; bytes = ap (λ (x : ℕ × List ℕ). x .1) e; short = omega (arith, p .short) }
+line-written p short fits = wider short (put-wrote (omega arith) p)
 
 -- the same text, said otherwise
 pub written-as : {room at r : ℕ} {text text′ before after : List ℕ} → text ≡ text′ → Wrote room text before at r after → Wrote room text′ before at r after

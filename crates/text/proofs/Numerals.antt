@@ -11,7 +11,6 @@ use lib.Dec.{eqb, ltb, lit<}
 use lib.IntN.{ℤ, pos, negsuc}
 use lib.ListN.{length, length-append, getD, List·getD-append}
 use Rattle.text.specs.Text.{glyph, digits, decimalUpTo, decimal, signed, hex16}
-use Rattle.text.proofs.Digits.{length-digits}
 
 -- ---- what digits stand for
 
@@ -52,10 +51,6 @@ digits-value b (suc k) n p q h =
 pub hex16-value : (n : ℕ) → n < 2 ^ 64 → value 16 (hex16 n) ≡ n
 unfolding hex16
 hex16-value n h = digits-value 16 16 n (lit< tt) (omega arith) h
-
-pub hex16-length : (n : ℕ) → length (hex16 n) ≡ 16
-unfolding hex16
-hex16-length n = length-digits 16 16 n
 
 -- ---- decimal text
 

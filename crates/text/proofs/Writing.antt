@@ -1,19 +1,18 @@
 -- Text put where there is room, `Wrote`, and what a public call makes of it, `Put`. By the laws of `sets`. Assumes nothing.
 use Prim.Native.Nat.{ℕ, _+_, _-_, _≤_}
-use mathlib.Core.Path.{_≡_, refl, sym, ap, ap₂, _∙_, subst}
+use mathlib.Core.Path.{_≡_, refl, sym, ap, _∙_, subst}
 use mathlib.Core.Bool.{Bool, true, false, cond}
-use mathlib.Core.List.{List, [], _∷_, _++_}
+use mathlib.Core.List.{List, [], _∷_}
 use native.Mathlib.Nat.{le-trans}
 use native.Mathlib.Numerals.{add-one}
 use native.Mathlib.Omega.{arith}
 use borrow.Author.Tests.{leb-true, leb-false, le-leb, lt-leb}
 use lib.Dec.{leb}
-use lib.ListN.{length, length-append, take, drop, set}
-use lib.Seq.{sets, sets-eq, take-at, length-take-le}
+use lib.ListN.{length, set}
+use lib.Seq.{sets}
 use Rattle.text.specs.Text.{digits}
 use Rattle.text.specs.declared.Word.{Word}
 use Rattle.text.specs.Put.{Wrote, Put, spelt}
-use Rattle.text.proofs.Sets.{sets-append}
 use Rattle.text.proofs.Digits.{length-digits}
 
 -- k digits that are stored
@@ -74,21 +73,3 @@ put-wrote {room} {at} {r} {text} {before} {after} h p =
     p .outcome ∙ ap (λ (t : Bool). cond t (at + length text, sets before at text) (at, before)) (le-leb (at + room) (length before) h) in
     let n : r ≡ at + length text = ap (λ (o : ℕ × List ℕ). o .0) e in
     record { ends = n; bytes = ap (λ (o : ℕ × List ℕ). o .1) e; short = omega (arith, p .short) }
-
--- a text after a text is one text
-pub wrote-then : {m n at i r : ℕ} {t u before now after : List ℕ} → Wrote m t before at i now → Wrote n u now i r after → Wrote (m + n) (t ++ u) before at r after
-wrote-then {at = at} {i = i} {t = t} {u = u} {before = before} v w =
-    let l : length (t ++ u) ≡ length t + length u = length-append t u in
-    record {
-      ends = omega (arith, v .ends, w .ends);
-      bytes = w .bytes ∙ ap₂ (λ (b : List ℕ) (k : ℕ). sets b k u) (v .bytes) (v .ends) ∙ sym (sets-append before at t u);
-      short = omega (arith, v .short, w .short);
-    }
-
--- the bytes up to the text's end are those up to its start, and the text
-pub wrote-text : {room at r : ℕ} {text before after : List ℕ} → at + room ≤ length before → Wrote room text before at r after → take r after ≡ take at before ++ text
-wrote-text {room} {at} {r} {text} {before} {after} h w =
-    let k : at + length text ≤ length before = omega (arith, w .short) in
-    let n : length (take at before ++ text) ≡ r = length-append (take at before) text ∙ omega (arith, length-take-le at before (omega arith), w .ends) in
-    ap (take r) (w .bytes ∙ sets-eq text before at k)
-    ∙ take-at (take at before ++ text) (drop (at + length text) before) r n
