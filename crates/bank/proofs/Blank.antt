@@ -17,14 +17,6 @@ pub both-true : (t u : Bool) → (t && u) ≡ true → (t ≡ true) × (u ≡ tr
 both-true true u e = (refl, e)
 both-true false u e = absurd (clash (sym e))
 
-pub and-true : (t : Bool) → (t && true) ≡ t
-and-true true = refl
-and-true false = refl
-
-pub and-assoc : (t u v : Bool) → ((t && u) && v) ≡ (t && (u && v))
-and-assoc true u v = refl
-and-assoc false u v = refl
-
 pub zeros-blank : (n : ℕ) → blank (zeros n) ≡ true
 unfolding blank zeros
 zeros-blank zero = refl

@@ -1,6 +1,6 @@
 -- Two tests, against a limit and its negative, are one of the size; and the phase by whether there is one. Assumes nothing.
 use mathlib.Core.Path.{_≡_, refl, sym, _∙_, ap}
-use mathlib.Core.Bool.{Bool, true, false, _&&_}
+use mathlib.Core.Bool.{Bool, true, false, _&&_, and-true}
 use Prim.Native.Nat.{ℕ, zero, suc}
 use lib.Dec.{ltb, leb·suc-suc, leb·suc-zero}
 use lib.IntN.{ℤ, pos, negsuc, negℤ, natAbs}
@@ -8,10 +8,6 @@ use lib.Signed.{ltZ}
 use Rattle.ints.proofs.Cases.{when-true, when-false}
 use Rattle.model.specs.Angle.{noPhase, phaseAngle, phaseOf, zeroTurn}
 use Rattle.model.specs.declared.filter.Phasor.{Phasor}
-
-and-true : (b : Bool) → (b && true) ≡ b
-and-true true = refl
-and-true false = refl
 
 and-false : (b : Bool) → (b && false) ≡ false
 and-false true = refl

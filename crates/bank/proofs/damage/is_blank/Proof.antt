@@ -1,14 +1,13 @@
 -- `bank::damage::is_blank` meets its contract. The invariant: the whole is blank where all bytes so far are zero and the rest is blank. Assumes nothing.
 use Prim.Native.Nat.{_≤_, _<_, _-_}
 use mathlib.Core.Path.{_≡_, refl, sym, _∙_}
-use mathlib.Core.Bool.{_&&_}
+use mathlib.Core.Bool.{_&&_, and-true, and-assoc}
 use native.Mathlib.Omega.{arith}
 use native.Mathlib.Numerals.{add-one}
 use lib.Dec.{eqb}
 use lib.ListN.{length, getD, drop, drop-of-length-le}
 use lib.Seq.{drop-cons}
 use Rattle.bank.specs.Damage.{blank}
-use Rattle.bank.proofs.Blank.{and-true, and-assoc}
 use Rattle.bank.proofs.damage.is_blank.Statement.{statement}
 use Rattle.bank.proofs.damage.is_blank.Tie as tie
 
