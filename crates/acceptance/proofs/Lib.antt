@@ -5,6 +5,8 @@ pub mod ConditionB
 pub mod ConditionC
 pub mod Figures
 pub mod Document
+pub mod Tied
+pub mod Rejected
 pub mod Refusing
 pub mod Numbered
 pub mod OnSlot

@@ -11,11 +11,11 @@ use Rattle.phs.specs.Lines.{headLine, reportLine, lastLine}
 use Rattle.phs.specs.Listing.{listing}
 
 -- a = cos n, b = cos(n-5), c = cos(n-10)
-abbrev wave : ℕ → Sample
+abbrev pub wave : ℕ → Sample
 wave n = record { a = entryAt cosines n; b = entryAt cosines (n + 10); c = entryAt cosines (n + 5) }
 
 -- the bytes of so many samples, from index n on
-abbrev samplesFrom : (n count : ℕ) → List ℕ
+abbrev pub samplesFrom : (n count : ℕ) → List ℕ
 samplesFrom n zero = []
 samplesFrom n (suc count) = placeOf (wave n) ++ samplesFrom (suc n) count
 

@@ -86,11 +86,11 @@ abbrev minusOf : ℕ → ℤ
 minusOf n = negℤ (pos n)
 
 -- a device that reads (re, im)
-abbrev device : ℕ → ℕ → Device
+abbrev pub device : ℕ → ℕ → Device
 device re im = record { re = pos re; im = pos im; deviation = pos 0; rocof = pos 0 }
 
 -- a reference of (re, im)
-abbrev reference : ℕ → ℕ → Reference
+abbrev pub reference : ℕ → ℕ → Reference
 reference re im = record { re = pos re; im = pos im; deviation = pos 0; rocof = pos 0 }
 
 -- the figures that are marked P, in document 01's order; r - p = 2^31 stands twice, without a wrap and with one

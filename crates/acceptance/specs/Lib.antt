@@ -7,3 +7,5 @@ pub mod Alone
 pub mod ConditionC
 pub mod Figures
 pub mod Document
+pub mod Tied
+pub mod Rejected

@@ -1,0 +1,125 @@
+-- No useless model and no slip is admitted: the rules are computed on the calls, and what comes out is something else. Assumes nothing.
+use mathlib.Core.Path.{_≡_, sym, ap, _∙_}
+use mathlib.Core.List.{List}
+use Prim.Native.Nat.{ℕ}
+use native.Mathlib.Omega.{arith}
+use lib.IntN.{ℤ, pos, natAbs}
+use lib.ListN.{getD, take, drop}
+use Rattle.ints.specs.Whole.{sum}
+use Rattle.bits.specs.Bits.{signedIn, bits16}
+use Rattle.sampling.specs.Tags.{servedRate, keptRate}
+use Rattle.model.specs.Filter.{weight, offset, phaseSum, term, weighted, positive}
+use Rattle.model.specs.Angle.{arctan, scaled, turned, step, steps, noPhase, phaseAngle, phaseOf}
+use Rattle.model.specs.Report.{secondDifference, differences, joined, phaseAt, figuresAt}
+use Rattle.feed.specs.Answers.{Said, refused, done, taken, takenWith, tagged}
+use Rattle.feed.specs.Places.{zeros, sampleOf, placeOf, samplesOf, withPlace}
+use Rattle.feed.specs.History.{isDue, reportAt, answered}
+use Rattle.feed.specs.Ring.{unserved, uneven, early, faulty, opened, nextHead, stored, historyOf, Next, pushed}
+use Rattle.bank.specs.Slot.{slotAt, withSlot, headIn, headBytes, placesIn, tailIn, tailOf, feedIn, slotOf, freeSlot}
+use Rattle.bank.specs.Damage.{blank, stray, isDamaged}
+use Rattle.bank.specs.Calls.{Outcome, cleared, openedAt, pushedAt, closedAt}
+use Rattle.runs.specs.Runs.{measured, Said as RunSaid, refused as runRefused, figures}
+use Rattle.verdict.specs.Errors.{errorsOf}
+use Rattle.verdict.specs.Judging.{verdictOn, judgement, Said as JudgedSaid, refused as judgedRefused, left-out, verdicts}
+use Rattle.header.specs.Header.{isMark, versionIn, socIn, headed, Said as HeaderSaid, refused as headerRefused, opens}
+use Rattle.acceptance.specs.Rejected.{RefusesEverything, UselessModels, Slips}
+
+-- ---- what is read off an answer
+
+-- whether an answer is a refusal: 1 or 0
+abbrev isRefused : Said → ℕ
+isRefused (refused n) = 1
+isRefused done = 0
+isRefused taken = 0
+isRefused (takenWith soc frame re im d1 d2 mark rePeak imPeak deviation rocof) = 0
+
+abbrev isRunRefused : RunSaid → ℕ
+isRunRefused (runRefused n) = 1
+isRunRefused (figures re im d1 d2 mark rePeak imPeak deviation rocof) = 0
+
+abbrev isJudgedRefused : JudgedSaid → ℕ
+isJudgedRefused (judgedRefused n) = 1
+isJudgedRefused left-out = 0
+isJudgedRefused (verdicts tve fe rfe) = 0
+
+abbrev isHeaderRefused : HeaderSaid → ℕ
+isHeaderRefused (headerRefused n) = 1
+isHeaderRefused (opens version nominal rate soc) = 0
+
+-- whether an answer is a report, its frame and its re; 0 where there is none
+abbrev isReport : Said → ℕ
+isReport (refused n) = 0
+isReport done = 0
+isReport taken = 0
+isReport (takenWith soc frame re im d1 d2 mark rePeak imPeak deviation rocof) = 1
+
+abbrev frameOf : Said → ℕ
+frameOf (refused n) = 0
+frameOf done = 0
+frameOf taken = 0
+frameOf (takenWith soc frame re im d1 d2 mark rePeak imPeak deviation rocof) = frame
+
+abbrev reOf : Said → ℤ
+reOf (refused n) = pos 0
+reOf done = pos 0
+reOf taken = pos 0
+reOf (takenWith soc frame re im d1 d2 mark rePeak imPeak deviation rocof) = re
+
+-- the same of a whole run's figures
+abbrev runRe : RunSaid → ℤ
+runRe (runRefused n) = pos 0
+runRe (figures re im d1 d2 mark rePeak imPeak deviation rocof) = re
+
+abbrev runD1 : RunSaid → ℤ
+runD1 (runRefused n) = pos 0
+runD1 (figures re im d1 d2 mark rePeak imPeak deviation rocof) = d1
+
+-- two whole numbers of different size
+apart : {x y z : ℤ} → x ≡ y → x ≡ z → natAbs y ≡ natAbs z
+apart p q = ap natAbs (sym p ∙ q)
+
+-- 1 is not 0
+one-not-zero : _≡_ {A = ℕ} 1 0 → ⊥
+one-not-zero e = omega (arith, e)
+
+refuses-everything : RefusesEverything
+unfolding cleared openedAt pushedAt closedAt slotAt withSlot headIn headBytes placesIn tailIn tailOf feedIn slotOf freeSlot blank stray isDamaged unserved uneven early faulty opened nextHead stored historyOf pushed zeros servedRate keptRate sampleOf placeOf samplesOf withPlace signedIn bits16 isDue answered measured judgement errorsOf verdictOn isMark versionIn socIn headed
+refuses-everything = record {
+  clearing = λ n after p. one-not-zero (ap (λ (o : Outcome). isRefused (o .answer)) p);
+  opening = λ n after p. one-not-zero (ap (λ (o : Outcome). isRefused (o .answer)) p);
+  pushing = λ n after p. one-not-zero (ap (λ (o : Outcome). isRefused (o .answer)) p);
+  closing = λ n after p. one-not-zero (ap (λ (o : Outcome). isRefused (o .answer)) p);
+  feeding = λ n next p. one-not-zero (ap (λ (o : Next). isRefused (o .answer)) p);
+  judging = λ n p. one-not-zero (ap isJudgedRefused p);
+  measuring = λ n p. one-not-zero (ap isRunRefused p);
+  heading = λ n p. one-not-zero (ap isHeaderRefused p);
+}
+
+pub useless-models : UselessModels
+unfolding openedAt pushedAt slotAt withSlot headIn headBytes placesIn tailIn tailOf feedIn slotOf blank stray isDamaged unserved uneven early faulty opened nextHead stored historyOf zeros servedRate keptRate sampleOf placeOf samplesOf withPlace signedIn bits16 sum weight offset phaseSum term weighted positive arctan scaled turned step steps noPhase phaseAngle phaseOf secondDifference differences joined phaseAt figuresAt tagged isDue reportAt answered
+useless-models = record {
+  refuses-everything = refuses-everything;
+  fixed-report = λ r after after′ p q.
+      let e = apart (ap (λ (o : Outcome). reOf (o .answer)) p) (ap (λ (o : Outcome). reOf (o .answer)) q) in omega (arith, e);
+  stores-nothing = λ r p. one-not-zero (sym (ap (λ (o : Outcome). getD (o .bank) 3 0) p));
+  place-stays = λ r after p q. one-not-zero (
+      sym (ap (λ (o : Outcome). getD (take 6 (drop 11 (o .bank))) 1 0) p) ∙ ap (λ (l : List ℕ). getD l 1 0) q);
+  opening-pretended = λ after p q. one-not-zero (
+      sym (ap (λ (o : Outcome). getD (slotAt (o .bank) 15) 0 0) p) ∙ ap (λ (l : List ℕ). getD l 0 0) q);
+  push-pretended = λ r after p q. one-not-zero (
+      sym (ap (λ (o : Outcome). getD (slotAt (o .bank) 15) 3 0) p) ∙ ap (λ (l : List ℕ). getD l 3 0) q);
+  report-of-slot-0 = λ r after p. one-not-zero (ap (λ (o : Outcome). isReport (o .answer)) p);
+}
+
+pub slips : Slips
+unfolding openedAt pushedAt closedAt slotAt withSlot headIn headBytes placesIn tailIn tailOf feedIn slotOf freeSlot blank stray isDamaged unserved uneven early faulty opened nextHead stored historyOf zeros servedRate keptRate sampleOf placeOf samplesOf withPlace signedIn bits16 sum weight offset phaseSum term weighted positive arctan scaled turned step steps noPhase phaseAngle phaseOf secondDifference differences joined phaseAt figuresAt tagged isDue reportAt answered measured
+slips = record {
+  negative-sequence = λ r p q. let e = ap (λ (s : RunSaid). natAbs (runRe s)) (sym p ∙ q) in omega (arith, e);
+  not-wrapped = λ f p q. let e = apart (ap runD1 p) q in omega (arith, e);
+  newest-time = λ r after p soc frame. let e = ap (λ (o : Outcome). frameOf (o .answer)) p in omega (arith, e, frame);
+  floored = λ f p. ap runD1 p;
+  truncating = λ f p q. let e = apart (ap runD1 p) q in omega (arith, e);
+  fault-elsewhere-opening = λ after p. one-not-zero (ap (λ (o : Outcome). isRefused (o .answer)) p);
+  fault-elsewhere-pushing = λ after p. one-not-zero (ap (λ (o : Outcome). isRefused (o .answer)) p);
+  fault-elsewhere-closing = λ after p. one-not-zero (ap (λ (o : Outcome). isRefused (o .answer)) p);
+}
