@@ -1,4 +1,4 @@
--- A row of calls reads its file byte by byte: `stream` is what the bytes do with all the room there is, and every cut of a file follows it. By induction on the part and on the cut.
+-- A row of calls reads its file byte by byte: every cut of a file follows `stream`. By induction on the part and on the cut.
 use mathlib.Core.Path.{_≡_, refl, sym, ap, ap₂, _∙_}
 use mathlib.Core.Bool.{Bool, true, false}
 use mathlib.Core.List.{List, [], _∷_, _++_, append-assoc}
@@ -11,16 +11,8 @@ use lib.Seq.{sets, sets-eq, take-append-seam}
 use Rattle.phs.specs.declared.Reader.{Reader}
 use Rattle.phs.specs.declared.Moved.{Moved}
 use Rattle.phs.specs.Lines.{lineRoom}
-use Rattle.phs.specs.Stream.{Left, afterByte, Fed, fed, Read, outcome, Reading}
+use Rattle.phs.specs.Stream.{Left, afterByte, after, stream, Fed, fed, Read, outcome, Reading}
 use Rattle.phs.specs.Cut.{Bytes, Cut, none, call}
-
--- bytes in a row, with all the room there is
-abbrev pub after : Left → Left → Left
-after n m = record { reader = m .reader; bank = m .bank; text = n .text ++ m .text }
-
-unfoldable pub stream : Reader → List ℕ → List ℕ → Left
-stream r bank [] = record { reader = r; bank = bank; text = [] }
-stream r bank (b ∷ bs) = after (afterByte r bank b) (stream (afterByte r bank b .reader) (afterByte r bank b .bank) bs)
 
 pub stream-append : (r : Reader) (bank x y : List ℕ) → stream r bank (x ++ y) ≡ after (stream r bank x) (stream (stream r bank x .reader) (stream r bank x .bank) y)
 unfolding stream

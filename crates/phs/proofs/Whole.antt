@@ -24,9 +24,9 @@ use Rattle.phs.specs.declared.Reader.{Reader}
 use Rattle.header.specs.Header.{headed, opens, Said as HeaderSaid, refused as refusedHeader}
 use Rattle.phs.specs.Lines.{headLine, reportLine, lastLine, refusedLine, lineRoom}
 use Rattle.phs.specs.Listing.{isRefusal, sampleIn, reportIn, lineOf, answers, reportsIn, samplesIn, endsRefused, linesOf, printed, listed, listing}
-use Rattle.phs.specs.Stream.{Left, readerAt, started, keeping, sampled, begun, stageAfter, headerByte, sampleByte, afterByte, last, lastWith, Finishing}
+use Rattle.phs.specs.Stream.{Left, readerAt, started, keeping, sampled, begun, stageAfter, headerByte, sampleByte, afterByte, after, stream, last, lastWith, Finishing}
 use Rattle.phs.specs.Cut.{Bytes, EveryCut}
-use Rattle.phs.proofs.Flow.{after, stream, bytes-take, cut-stream, cut-bytes}
+use Rattle.phs.proofs.Flow.{bytes-take, cut-stream, cut-bytes}
 use Rattle.phs.proofs.Counts.{Within, from-opening, unwrapped, still-within}
 use Rattle.phs.proofs.Headers.{Known, is-read, header-known}
 use Rattle.phs.proofs.Held.{Holds, opening-is, opening-holds, Answers, push-holds}

@@ -89,6 +89,17 @@ afterByteIn Over r bank b = wordless r bank
 unfoldable pub afterByte : Reader → List ℕ → ℕ → Left
 afterByte r bank b = afterByteIn (r .stage) r bank b
 
+-- ---- bytes in a row
+
+-- what a byte leaves, and then the others
+abbrev pub after : Left → Left → Left
+after n m = record { reader = m .reader; bank = m .bank; text = n .text ++ m .text }
+
+-- all of the bytes, with all the room there is
+unfoldable pub stream : Reader → List ℕ → List ℕ → Left
+stream r bank [] = wordless r bank
+stream r bank (b ∷ bs) = after (afterByte r bank b) (stream (afterByte r bank b .reader) (afterByte r bank b .bank) bs)
+
 -- ---- a part
 
 -- what a call leaves: the reader, the bytes of the bank, how many bytes of the part are read, and the text

@@ -1,15 +1,19 @@
--- `listing::list` meets its contract: the lent bytes keep their lengths, and the turns fall. Assumes nothing.
+-- `lister::list_all` meets its contract: the lent bytes keep their lengths, and the turns fall. Assumes nothing.
 use mathlib.Core.Path.{_≡_}
+use native.Mathlib.Omega.{arith}
 use borrow.Author.Needs.{needs}
 use lib.ListN.{length}
-use Rattle.listing.proofs.list.Statement.{statement}
-use Rattle.listing.proofs.list.Tie as tie
+use Rattle.lister.specs.declared.Ending.the-variants.{Unread, Unwritten, Endless}
+use Rattle.lister.proofs.Endings.{has-room}
+use Rattle.lister.proofs.list_all.Statement.{statement}
+use Rattle.lister.proofs.list_all.Tie as tie
 
 abbrev Inv-loop : tie.InvT-loop
-Inv-loop bank₀ input₀ out₀ reader₀ turns₀ t8 bank input out reader turns = (length bank ≡ length bank₀) × (length input ≡ length input₀) × (length out ≡ length out₀)
+Inv-loop bank₀ input₀ out₀ from to reader₀ turns₀ bank input out reader turns =
+    (length bank ≡ length bank₀) × (length input ≡ length input₀) × (length out ≡ length out₀)
 
 abbrev μ-loop : tie.MeasureT-loop
-μ-loop bank₀ input₀ out₀ reader₀ turns₀ t8 bank input out reader turns = turns
+μ-loop bank₀ input₀ out₀ from to reader₀ turns₀ bank input out reader turns = turns
 
 start-requires : tie.Need-start-requires Inv-loop μ-loop
 start-requires c κs = search needs
@@ -63,13 +67,10 @@ same-length-6 : tie.Need-same-length-6 Inv-loop μ-loop
 same-length-6 c = search needs
 
 returns-2 : tie.Need-returns-2 Inv-loop μ-loop
-returns-2 c = search needs
+returns-2 c = has-room Unread (λ e. omega (arith, e))
 
-slice-aggregate-write-all : tie.Need-slice-aggregate-write-all Inv-loop μ-loop
-slice-aggregate-write-all c = search needs
-
-write-all-requires : tie.Need-write-all-requires Inv-loop μ-loop
-write-all-requires c κs = search needs
+enum-told-4 : tie.Need-enum-told-4 Inv-loop μ-loop
+enum-told-4 c = search needs
 
 same-length-7 : tie.Need-same-length-7 Inv-loop μ-loop
 same-length-7 c = search needs
@@ -81,10 +82,22 @@ same-length-9 : tie.Need-same-length-9 Inv-loop μ-loop
 same-length-9 c = search needs
 
 returns-3 : tie.Need-returns-3 Inv-loop μ-loop
-returns-3 c = search needs
+returns-3 c = has-room Unwritten (λ e. omega (arith, e))
 
-pub list-spec : {M : Type 1} → statement M
-list-spec =
+same-length-10 : tie.Need-same-length-10 Inv-loop μ-loop
+same-length-10 c = search needs
+
+same-length-11 : tie.Need-same-length-11 Inv-loop μ-loop
+same-length-11 c = search needs
+
+same-length-12 : tie.Need-same-length-12 Inv-loop μ-loop
+same-length-12 c = search needs
+
+returns-4 : tie.Need-returns-4 Inv-loop μ-loop
+returns-4 c = has-room Endless (λ e. omega (arith, e))
+
+pub list-all-spec : {M : Type 1} → statement M
+list-all-spec =
     tie.close
     (tie.spec
     Inv-loop
@@ -107,9 +120,12 @@ list-spec =
     same-length-5
     same-length-6
     returns-2
-    slice-aggregate-write-all
-    write-all-requires
+    enum-told-4
     same-length-7
     same-length-8
     same-length-9
-    returns-3)
+    returns-3
+    same-length-10
+    same-length-11
+    same-length-12
+    returns-4)

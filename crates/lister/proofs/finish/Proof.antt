@@ -1,8 +1,11 @@
--- `listing::finish` meets its contract: the last line lies in the buffer. Assumes nothing.
+-- `lister::finish` meets its contract: the last line lies in the buffer, and the ending is by its writing. Assumes nothing.
 use borrow.Author.Needs.{needs}
+use native.Mathlib.Omega.{arith}
 use Rattle.phs.proofs.Progress.{last-length}
-use Rattle.listing.proofs.finish.Statement.{statement}
-use Rattle.listing.proofs.finish.Tie as tie
+use Rattle.lister.specs.declared.Ending.the-variants.{Listed, Unwritten}
+use Rattle.lister.proofs.Endings.{has-room}
+use Rattle.lister.proofs.finish.Statement.{statement}
+use Rattle.lister.proofs.finish.Tie as tie
 
 finish-requires : tie.Need-finish-requires
 finish-requires c κs = search needs
@@ -16,23 +19,17 @@ slice-aggregate-write-all c = last-length _ _ _ _ (c .before .before .before .fi
 write-all-requires : tie.Need-write-all-requires
 write-all-requires c κs = search needs
 
-slice-aggregate-fail : tie.Need-slice-aggregate-fail
-slice-aggregate-fail c = search needs
-
-fail-requires : tie.Need-fail-requires
-fail-requires c κs = search needs
-
 same-length : tie.Need-same-length
 same-length c = search needs
 
 returns : tie.Need-returns
-returns c = search needs
+returns c = has-room Listed (λ e. omega (arith, e))
 
 same-length-2 : tie.Need-same-length-2
 same-length-2 c = search needs
 
 returns-2 : tie.Need-returns-2
-returns-2 c = search needs
+returns-2 c = has-room Unwritten (λ e. omega (arith, e))
 
 pub finish-spec : {M : Type 1} → statement M
 finish-spec =
@@ -42,8 +39,6 @@ finish-spec =
     slice-reshare-prefix-write-all
     slice-aggregate-write-all
     write-all-requires
-    slice-aggregate-fail
-    fail-requires
     same-length
     returns
     same-length-2

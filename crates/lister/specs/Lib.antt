@@ -1,0 +1,3 @@
+-- The definitions of `lister`; `Inside` is no part of any promise.
+pub mod Listing
+pub mod Inside

@@ -1,2 +1,0 @@
--- The laws of `listing`.
-pub mod Rest

@@ -1,0 +1,3 @@
+-- The laws of `reads`.
+pub mod Signs
+pub mod Unique

@@ -1,0 +1,2 @@
+-- The definition of `reads`.
+pub mod Counts
