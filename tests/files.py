@@ -3,7 +3,8 @@
 make SEED COUNT DIR           writes NNN.phs and its listing NNN.txt
 compare PROGRAM [SEED COUNT]  feeds such files to the program in pieces and compares its listings
 examples DIR                  writes a few short example files and their listings
-gate FILE LISTING             writes the file that the gate runs the program on, and its listing
+gate FILE LISTING             writes the file that the gate runs `listing` on, and its listing
+stored DIR LISTINGS           writes the files that the gate runs `listings` on, and the text of all their listings
 """
 
 import os
@@ -15,7 +16,7 @@ import tempfile
 
 from commands import SHOWN, dispatch
 from inputs import any_sample, any_wave, opening_pairs, sample_at, steady_wave
-from reference import HEADER_BYTES, LAST_SOC, SERVED, cos, kept_rate, listing, sampling
+from reference import HEADER_BYTES, LAST_SOC, SAMPLE_BYTES, SERVED, cos, kept_rate, listing, sampling
 
 PIECES = (None, 1, 4095, 65537)
 
@@ -225,50 +226,105 @@ def example_files():
 
 
 # ---------------------------------------------------------------------------
-# The file that the gate runs the program on
+# The files that the gate runs the programs on
+
+# `listings` lists each file once with each pair: the bytes of its input buffer and of its output buffer
+BUFFERS = ((65536, 65536), (7, 256), (65536, 256))
+
+
+def gone_on_with(seed, data, nominal, length):
+    """A file gone on with to so many bytes or more: waves, noise and silence. Each read of 65536 bytes ends inside a
+    sample."""
+    rng = random.Random(seed)
+    while len(data) < length:
+        count = rng.randint(40, 900)
+        data += rng.choice((any_body(rng, nominal, count), bytes(SAMPLE_BYTES * count)))
+    return data
+
 
 def gate_file():
-    """The document's file gone on with: waves, noise and silence of three phases, over two reads of 65536 bytes, each of
-    which ends inside a sample."""
-    rng = random.Random(2011)
-    data = document()
-    while len(data) < 132000:
-        count = rng.randint(40, 900)
-        data += rng.choice((any_body(rng, 60, count), bytes(6 * count)))
-    return data
+    """The document's file gone on with, over two reads of 65536 bytes."""
+    return gone_on_with(2011, document(), 60, 132000)
+
+
+def stored_files():
+    """The files that `listings` lists, by name, in its order."""
+    samples = body(steady_wave(60, 60.5, AMPLITUDE, 200))
+    return {
+        # refused 14, 14, 12, 13, 6, 7; whole headers have samples after them
+        "empty": b"",
+        "header_cut": header(60, 60)[:10],
+        "mark_wrong": header(60, 60, mark=b"PHT") + samples,
+        "version_wrong": header(60, 60, version=256) + samples,
+        "nominal_wrong": header(51, 10) + samples,
+        "rate_wrong": header(60, 50) + samples,
+        # sound; the waves pass the turn of a second
+        "header_only": header(50, 10),
+        "fifty": off_nominal(50, 25, 1.2, 0.37),
+        "sixty": off_nominal(60, 0, 1.2, -1.25),
+        # refused 15, and 8 with more than 65536 bytes after it
+        "sample_cut": ramp(60, 30, 0.4, 2.0)[:-3],
+        "last_second": header(60, 60, LAST_SOC) + body(steady_wave(60, 59.5, AMPLITUDE, 12000)),
+        # over several reads, sound and refused 15
+        "long": gone_on_with(2012, header(50, 50), 50, 400000),
+        "long_cut": gone_on_with(2013, header(60, 20), 60, 200000)[:-1],
+    }
+
+
+def listed_in_turn(named_files):
+    """The text that `listings` prints: each file's name, then its listing once for each pair of buffers."""
+    return b"".join(name.encode("ascii") + b".phs\n" + listing(data) * len(BUFFERS)
+                    for name, data in named_files.items())
 
 
 # ---------------------------------------------------------------------------
 # Commands
 
-def write(directory, name, data):
-    """Writes a file and its listing."""
-    with open(os.path.join(directory, name + ".phs"), "wb") as file:
-        file.write(data)
-    with open(os.path.join(directory, name + ".txt"), "wb") as file:
-        file.write(listing(data))
+def write(path, content):
+    """Writes the bytes of a file."""
+    with open(path, "wb") as file:
+        file.write(content)
+
+
+def write_files(directory, named_files):
+    """Writes each file as NAME.phs."""
+    os.makedirs(directory, exist_ok=True)
+    for name, data in named_files.items():
+        write(os.path.join(directory, name + ".phs"), data)
+
+
+def write_listings(directory, named_files):
+    """Writes the listing of each file as NAME.txt."""
+    for name, data in named_files.items():
+        write(os.path.join(directory, name + ".txt"), listing(data))
 
 
 def make(seed, count, directory):
     """Writes so many files and their listings."""
-    os.makedirs(directory, exist_ok=True)
-    for n, data in enumerate(files(int(seed), int(count))):
-        write(directory, "%03d" % n, data)
+    numbered = {"%03d" % n: data for n, data in enumerate(files(int(seed), int(count)))}
+    write_files(directory, numbered)
+    write_listings(directory, numbered)
 
 
 def examples(directory):
     """Writes the example files and their listings."""
-    os.makedirs(directory, exist_ok=True)
-    for name, data in example_files().items():
-        write(directory, name, data)
+    named = example_files()
+    write_files(directory, named)
+    write_listings(directory, named)
 
 
 def gate(file_name, listing_name):
     """Writes the file of the gate and its listing."""
     data = gate_file()
-    for name, content in ((file_name, data), (listing_name, listing(data))):
-        with open(name, "wb") as file:
-            file.write(content)
+    write(file_name, data)
+    write(listing_name, listing(data))
+
+
+def stored(directory, listings_name):
+    """Writes the stored files and the text of all their listings."""
+    named = stored_files()
+    write_files(directory, named)
+    write(listings_name, listed_in_turn(named))
 
 
 def printed_by(program, data, size):
@@ -305,4 +361,4 @@ def compare(program, seed=1, count=200):
 
 
 if __name__ == "__main__":
-    dispatch(__doc__, make, compare, examples, gate)
+    dispatch(__doc__, make, compare, examples, gate, stored)
