@@ -26,6 +26,11 @@ def compared(expected, printed, things):
     return 0 if agreed == len(expected) == len(printed) else 1
 
 
+def compared_on(program, data, expected, things):
+    """Runs a program on bytes and compares the lines that it prints: 0 if all agree, else 1."""
+    return compared(expected, printed_by(program, data), things)
+
+
 def dispatch(usage, *commands):
     """Runs the command that the command line names; what it answers is the exit status."""
     named = {command.__name__: command for command in commands}

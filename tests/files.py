@@ -299,11 +299,16 @@ def write_listings(directory, named_files):
         write(os.path.join(directory, name + ".txt"), listing(data))
 
 
+def numbered_files(seed, count):
+    """So many files, by number."""
+    return {"%03d" % n: data for n, data in enumerate(files(int(seed), int(count)))}
+
+
 def make(seed, count, directory):
     """Writes so many files and their listings."""
-    numbered = {"%03d" % n: data for n, data in enumerate(files(int(seed), int(count)))}
-    write_files(directory, numbered)
-    write_listings(directory, numbered)
+    named = numbered_files(seed, count)
+    write_files(directory, named)
+    write_listings(directory, named)
 
 
 def examples(directory):
@@ -342,22 +347,31 @@ def printed_by(program, data, size):
         return output.read()
 
 
-def compare(program, seed=1, count=200):
-    """Feeds files to the program in pieces; 0 if every listing agrees, else 1."""
+def with_listings(named_files):
+    """Each file's name, its bytes and its listing."""
+    return [(name, data, listing(data)) for name, data in named_files.items()]
+
+
+def compared_in_pieces(program, listed):
+    """Feeds files to the program in pieces; 0 if it prints each one's listing, else 1."""
     tried = 0
     differing = 0
-    for n, data in enumerate(files(int(seed), int(count))):
-        expected = listing(data)
+    for name, data, expected in listed:
         for size in PIECES:
             printed = printed_by(program, data, size or max(1, len(data)))
             tried += 1
             if printed != expected:
                 differing += 1
                 if differing <= SHOWN:
-                    print("file %03d in pieces of %s\n  expected %r\n  printed  %r"
-                          % (n, size or "any size", expected[-200:], printed[-200:]))
+                    print("file %s in pieces of %s\n  expected %r\n  printed  %r"
+                          % (name, size or "any size", expected[-200:], printed[-200:]))
     print("%d of %d listings agree" % (tried - differing, tried))
     return 0 if differing == 0 else 1
+
+
+def compare(program, seed=1, count=200):
+    """Feeds so many files to the program; 0 if every listing agrees, else 1."""
+    return compared_in_pieces(program, with_listings(numbered_files(seed, count)))
 
 
 if __name__ == "__main__":

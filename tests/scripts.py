@@ -9,7 +9,7 @@ endings PROGRAM                                runs it on short scripts of every
 
 import collections
 
-from commands import compared, dispatch, printed_by
+from commands import compared, compared_on, dispatch, printed_by
 from files import PIECES, printed_by as printed_in_pieces
 from maker import Maker, record, run_record
 from replay import ARGUMENTS, new_memory, replay
@@ -78,7 +78,7 @@ def make(seed, calls, script_path, expected_path, ending=None):
 def compare(program, seed, calls):
     """Runs the program on a script; 0 if every line agrees, else 1."""
     maker = made(int(seed), int(calls))
-    return compared(maker.lines, printed_by(program, b"".join(maker.records)), "lines")
+    return compared_on(program, b"".join(maker.records), maker.lines, "lines")
 
 
 def pieces(program, seed, calls):

@@ -8,7 +8,7 @@ import itertools
 import random
 from typing import NamedTuple
 
-from commands import compared, dispatch, printed_by
+from commands import compared_on, dispatch
 from inputs import HIGH, LOW, clipped, noise_sample, rail_sample, steady_wave
 from lines import figures_line
 from maker import run_record
@@ -280,7 +280,7 @@ def make(script_path, expected_path):
 def compare(program):
     """Runs the program on the script; 0 if every line agrees, else 1."""
     script, lines = script_and_lines()
-    return compared(lines, printed_by(program, script), "windows")
+    return compared_on(program, script, lines, "windows")
 
 
 if __name__ == "__main__":
