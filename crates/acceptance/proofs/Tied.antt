@@ -14,6 +14,7 @@ use Rattle.runs.proofs.Unique.{measure-unique as run-unique}
 use Rattle.verdict.proofs.Unique.{judge-unique}
 use Rattle.phs.specs.Stream.{Read}
 use Rattle.phs.proofs.Unique.{start-unique, read-part-unique, finish-unique}
+use Rattle.reads.proofs.Unique.{meaning-unique}
 use Rattle.acceptance.specs.Tied.{Tied}
 
 -- two pairs that are one have one first part and one second part
@@ -102,4 +103,7 @@ tied = record {
   phs-finish-asks-nothing = λ κs a. tt;
   phs-finish-says = λ κs a r s p. p;
   phs-finish-one = λ κs a r q s t x y. both (finish-unique (a .0) (now (a .1 .0)) r q (now (s .1 .0)) (now (t .1 .0)) x y);
+  reads-meaning-asks-nothing = λ κs a. tt;
+  reads-meaning-says = λ κs a r s p. p;
+  reads-meaning-one = λ κs a r q s t. meaning-unique (a .0) r q;
 }

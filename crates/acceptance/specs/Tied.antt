@@ -20,6 +20,7 @@ use Rattle.bank.specs.Calls.{Clearing, Opening, Pushing, Closing}
 use Rattle.runs.specs.Runs.{RunMeasuring}
 use Rattle.verdict.specs.Judging.{Judging}
 use Rattle.phs.specs.Stream.{started, Reading, Finishing}
+use Rattle.reads.specs.Counts.{meaning}
 use Rattle.bits.proofs.be16.Reads as be16Reads
 use Rattle.bits.proofs.be32.Reads as be32Reads
 use Rattle.bits.proofs.signed16.Reads as signed16Reads
@@ -46,6 +47,7 @@ use Rattle.verdict.proofs.judge.Reads as judgeReads
 use Rattle.phs.proofs.start.Reads as startReads
 use Rattle.phs.proofs.«read_part».Reads as readPartReads
 use Rattle.phs.proofs.finish.Reads as finishReads
+use Rattle.reads.proofs.meaning.Reads as meaningReads
 
 -- a contract that asks nothing
 abbrev pub AsksNothing : {A : Type 0} → (A → Type 0) → Type 0
@@ -180,3 +182,8 @@ pub record Tied : Type 0 where
   pub phs-finish-asks-nothing : (κs : _) → AsksNothing (finishReads.Pre κs)
   pub phs-finish-says : (κs : _) (a : _) (r : _) (s : _) → finishReads.Post κs a r s → Finishing (a .0) (now (a .1 .0)) r (now (s .1 .0))
   pub phs-finish-one : (κs : _) → OneOutcome (finishReads.Post κs) (λ s. now (s .1 .0))
+  -- ---- reads
+  -- `meaning`
+  pub reads-meaning-asks-nothing : (κs : _) → AsksNothing (meaningReads.Pre κs)
+  pub reads-meaning-says : (κs : _) (a : _) (r : _) (s : _) → meaningReads.Post κs a r s → r ≡ meaning (a .0)
+  pub reads-meaning-one : (κs : _) → OneAnswer (meaningReads.Post κs)

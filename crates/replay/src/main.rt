@@ -6,6 +6,7 @@ mod script;
 use libc::STDERR_FILENO;
 use libc::STDIN_FILENO;
 use libc::STDOUT_FILENO;
+use reads::Brought;
 use script::byte_at;
 use script::length_of;
 ghost use mathlib.Core.Path.{_≡_};
@@ -129,24 +130,34 @@ fn read_on(memory: &mut [u8], input: &mut [u8], held: usize, out: &mut [u8], tex
     ensures { λ r. ⌜ (r .held ≤ length (now (input .exit))) × (r .text ≤ length (now (out .exit))) ⌝ }
 {
     let got = libc::read(STDIN_FILENO, &mut input[held..]);
-    if got < 0 {
-        os::fail(b"replay: standard input");
-        let next = Next::Failed;
-        return Turn { held, text, next };
+    let brought = reads::meaning(got);
+    match brought {
+        Brought::Failed => {
+            os::fail(b"replay: standard input");
+            let next = Next::Failed;
+            Turn { held, text, next }
+        }
+        Brought::End => {
+            let next = ending(held);
+            Turn { held, text, next }
+        }
+        Brought::Bytes(_) => run_held(memory, input, held, got, out, text),
     }
-    if got == 0 {
-        let next = ending(held);
-        return Turn { held, text, next };
-    }
-    let end = held + io::count(got, &input[held..]);
-    run_held(memory, input, end, out, text)
 }
 
-// Runs the whole records of the bytes up to `end` and holds the rest.
-fn run_held(memory: &mut [u8], input: &mut [u8], end: usize, out: &mut [u8], text: usize) -> Turn
-    requires { ⌜ (end ≤ length (now input)) × (1024 ≤ length (now out)) × (text ≤ length (now out)) ⌝ }
+// Runs the whole records of the bytes that are held and of those that the read brought after them, and holds the rest.
+fn run_held(
+    memory: &mut [u8],
+    input: &mut [u8],
+    held: usize,
+    got: isize,
+    out: &mut [u8],
+    text: usize,
+) -> Turn
+    requires { ⌜ (held ≤ length (now input)) × (1024 ≤ length (now out)) × (text ≤ length (now out)) ⌝ }
     ensures { λ r. ⌜ (r .held ≤ length (now (input .exit))) × (r .text ≤ length (now (out .exit))) ⌝ }
 {
+    let end = held + io::count(got, &input[held..]);
     let ran = run_all(&input[0..end], memory, out, text);
     let at = ran.at;
     let text = ran.text;

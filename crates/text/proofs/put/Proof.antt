@@ -1,6 +1,9 @@
 -- `text::put` meets its contract, by the test for room. Assumes nothing.
 use borrow.Author.Needs.{needs}
 use mathlib.Core.Path.{sym, _∙_}
+use Prim.Native.Nat.{_+_, _≤_}
+use native.Mathlib.Omega.{arith}
+use lib.ListN.{length}
 use borrow.Author.Tests.{leb-true}
 use Rattle.text.proofs.Writing.{put-done, put-left}
 use Rattle.text.proofs.put.Statement.{statement}
@@ -13,7 +16,10 @@ has-room-requires : tie.Need-has-room-requires
 has-room-requires c κs = search needs
 
 fill-requires : tie.Need-fill-requires
-fill-requires c κs = leb-true _ _ (sym (c .before .before .has-room .ensures) ∙ c .before .if1 .taken)
+fill-requires c κs =
+    let a = c .before .before .before .before .before .args in
+    let room : a .at + (length (a .form .now) + 231) ≤ length (a .out .now) = leb-true _ _ (sym (c .before .before .has-room .ensures) ∙ c .before .if1 .taken) in
+    omega (arith, room)
 
 same-length : tie.Need-same-length
 same-length c = search needs
