@@ -20,39 +20,20 @@ use Rattle.bank.specs.Damage.{blank, stray, isDamaged}
 use Rattle.bank.specs.Calls.{Outcome, cleared, openedAt, pushedAt, closedAt}
 use Rattle.runs.specs.Runs.{measured, Said as RunSaid, refused as runRefused, figures}
 use Rattle.verdict.specs.Errors.{errorsOf}
-use Rattle.verdict.specs.Judging.{verdictOn, judgement, Said as JudgedSaid, refused as judgedRefused, left-out, verdicts}
-use Rattle.header.specs.Header.{isMark, versionIn, socIn, headed, Said as HeaderSaid, refused as headerRefused, opens}
+use Rattle.verdict.specs.Judging.{verdictOn, judgement}
+use Rattle.header.specs.Header.{isMark, versionIn, socIn, headed}
 use Rattle.acceptance.specs.Rejected.{RefusesEverything, UselessModels, Slips}
 
 -- ---- what is read off an answer
 
--- whether an answer is a refusal: 1 or 0
-abbrev isRefused : Said → ℕ
-isRefused (refused n) = 1
-isRefused done = 0
-isRefused taken = 0
-isRefused (takenWith soc frame re im d1 d2 mark rePeak imPeak deviation rocof) = 0
+-- which answer it is
+abbrev kindOf : Said → ℕ
+kindOf (refused n) = 0
+kindOf done = 1
+kindOf taken = 2
+kindOf (takenWith soc frame re im d1 d2 mark rePeak imPeak deviation rocof) = 3
 
-abbrev isRunRefused : RunSaid → ℕ
-isRunRefused (runRefused n) = 1
-isRunRefused (figures re im d1 d2 mark rePeak imPeak deviation rocof) = 0
-
-abbrev isJudgedRefused : JudgedSaid → ℕ
-isJudgedRefused (judgedRefused n) = 1
-isJudgedRefused left-out = 0
-isJudgedRefused (verdicts tve fe rfe) = 0
-
-abbrev isHeaderRefused : HeaderSaid → ℕ
-isHeaderRefused (headerRefused n) = 1
-isHeaderRefused (opens version nominal rate soc) = 0
-
--- whether an answer is a report, its frame and its re; 0 where there is none
-abbrev isReport : Said → ℕ
-isReport (refused n) = 0
-isReport done = 0
-isReport taken = 0
-isReport (takenWith soc frame re im d1 d2 mark rePeak imPeak deviation rocof) = 1
-
+-- the frame and the re of a report; 0 where there is none
 abbrev frameOf : Said → ℕ
 frameOf (refused n) = 0
 frameOf done = 0
@@ -65,7 +46,7 @@ reOf done = pos 0
 reOf taken = pos 0
 reOf (takenWith soc frame re im d1 d2 mark rePeak imPeak deviation rocof) = re
 
--- the same of a whole run's figures
+-- the re and the d1 of a whole run's figures
 abbrev runRe : RunSaid → ℤ
 runRe (runRefused n) = pos 0
 runRe (figures re im d1 d2 mark rePeak imPeak deviation rocof) = re
@@ -74,25 +55,29 @@ abbrev runD1 : RunSaid → ℤ
 runD1 (runRefused n) = pos 0
 runD1 (figures re im d1 d2 mark rePeak imPeak deviation rocof) = d1
 
--- two whole numbers of different size
-apart : {x y z : ℤ} → x ≡ y → x ≡ z → natAbs y ≡ natAbs z
-apart p q = ap natAbs (sym p ∙ q)
+-- which answer a call gives
+answer-is : {x y : Outcome} → x ≡ y → kindOf (x .answer) ≡ kindOf (y .answer)
+answer-is p = ap (λ (o : Outcome). kindOf (o .answer)) p
 
 -- 1 is not 0
 one-not-zero : _≡_ {A = ℕ} 1 0 → ⊥
 one-not-zero e = omega (arith, e)
 
+-- the sizes of two whole numbers that are one
+same-size : {x y z : ℤ} → x ≡ y → x ≡ z → natAbs y ≡ natAbs z
+same-size p q = ap natAbs (sym p ∙ q)
+
 refuses-everything : RefusesEverything
 unfolding cleared openedAt pushedAt closedAt slotAt withSlot headIn headBytes placesIn tailIn tailOf feedIn slotOf freeSlot blank stray isDamaged unserved uneven early faulty opened nextHead stored historyOf pushed zeros servedRate keptRate sampleOf placeOf samplesOf withPlace signedIn bits16 isDue answered measured judgement errorsOf verdictOn isMark versionIn socIn headed
 refuses-everything = record {
-  clearing = λ n after p. one-not-zero (ap (λ (o : Outcome). isRefused (o .answer)) p);
-  opening = λ n after p. one-not-zero (ap (λ (o : Outcome). isRefused (o .answer)) p);
-  pushing = λ n after p. one-not-zero (ap (λ (o : Outcome). isRefused (o .answer)) p);
-  closing = λ n after p. one-not-zero (ap (λ (o : Outcome). isRefused (o .answer)) p);
-  feeding = λ n next p. one-not-zero (ap (λ (o : Next). isRefused (o .answer)) p);
-  judging = λ n p. one-not-zero (ap isJudgedRefused p);
-  measuring = λ n p. one-not-zero (ap isRunRefused p);
-  heading = λ n p. one-not-zero (ap isHeaderRefused p);
+  clearing = λ n after p. omega (arith, answer-is p);
+  opening = λ n after p. omega (arith, answer-is p);
+  pushing = λ n after p. omega (arith, answer-is p);
+  closing = λ n after p. omega (arith, answer-is p);
+  feeding = λ n next p. let e = ap (λ (o : Next). kindOf (o .answer)) p in omega (arith, e);
+  judging = λ n p. let z : _≡_ {A = ℕ} 0 1 = cc in omega arith;
+  measuring = λ n p. let z : _≡_ {A = ℕ} 0 1 = cc in omega arith;
+  heading = λ n p. let z : _≡_ {A = ℕ} 0 1 = cc in omega arith;
 }
 
 pub useless-models : UselessModels
@@ -100,7 +85,7 @@ unfolding openedAt pushedAt slotAt withSlot headIn headBytes placesIn tailIn tai
 useless-models = record {
   refuses-everything = refuses-everything;
   fixed-report = λ r after after′ p q.
-      let e = apart (ap (λ (o : Outcome). reOf (o .answer)) p) (ap (λ (o : Outcome). reOf (o .answer)) q) in omega (arith, e);
+      let e = same-size (ap (λ (o : Outcome). reOf (o .answer)) p) (ap (λ (o : Outcome). reOf (o .answer)) q) in omega (arith, e);
   stores-nothing = λ r p. one-not-zero (sym (ap (λ (o : Outcome). getD (o .bank) 3 0) p));
   place-stays = λ r after p q. one-not-zero (
       sym (ap (λ (o : Outcome). getD (take 6 (drop 11 (o .bank))) 1 0) p) ∙ ap (λ (l : List ℕ). getD l 1 0) q);
@@ -108,18 +93,18 @@ useless-models = record {
       sym (ap (λ (o : Outcome). getD (slotAt (o .bank) 15) 0 0) p) ∙ ap (λ (l : List ℕ). getD l 0 0) q);
   push-pretended = λ r after p q. one-not-zero (
       sym (ap (λ (o : Outcome). getD (slotAt (o .bank) 15) 3 0) p) ∙ ap (λ (l : List ℕ). getD l 3 0) q);
-  report-of-slot-0 = λ r after p. one-not-zero (ap (λ (o : Outcome). isReport (o .answer)) p);
+  report-of-slot-0 = λ r after p. omega (arith, answer-is p);
 }
 
 pub slips : Slips
 unfolding openedAt pushedAt closedAt slotAt withSlot headIn headBytes placesIn tailIn tailOf feedIn slotOf freeSlot blank stray isDamaged unserved uneven early faulty opened nextHead stored historyOf zeros servedRate keptRate sampleOf placeOf samplesOf withPlace signedIn bits16 sum weight offset phaseSum term weighted positive arctan scaled turned step steps noPhase phaseAngle phaseOf secondDifference differences joined phaseAt figuresAt tagged isDue reportAt answered measured
 slips = record {
   negative-sequence = λ r p q. let e = ap (λ (s : RunSaid). natAbs (runRe s)) (sym p ∙ q) in omega (arith, e);
-  not-wrapped = λ f p q. let e = apart (ap runD1 p) q in omega (arith, e);
+  not-wrapped = λ f p q. let e = same-size (ap runD1 p) q in omega (arith, e);
   newest-time = λ r after p soc frame. let e = ap (λ (o : Outcome). frameOf (o .answer)) p in omega (arith, e, frame);
   floored = λ f p. ap runD1 p;
-  truncating = λ f p q. let e = apart (ap runD1 p) q in omega (arith, e);
-  fault-elsewhere-opening = λ after p. one-not-zero (ap (λ (o : Outcome). isRefused (o .answer)) p);
-  fault-elsewhere-pushing = λ after p. one-not-zero (ap (λ (o : Outcome). isRefused (o .answer)) p);
-  fault-elsewhere-closing = λ after p. one-not-zero (ap (λ (o : Outcome). isRefused (o .answer)) p);
+  truncating = λ f p q. let e = same-size (ap runD1 p) q in omega (arith, e);
+  fault-elsewhere-opening = λ after p. omega (arith, answer-is p);
+  fault-elsewhere-pushing = λ after p. omega (arith, answer-is p);
+  fault-elsewhere-closing = λ after p. omega (arith, answer-is p);
 }
