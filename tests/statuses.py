@@ -115,10 +115,10 @@ def writes():
         yield Case("./measure %s.phs | head -c 10; exit ${PIPESTATUS[0]}" % name, 2, b"PHS 1 50 5", "Broken pipe")
 
 
-def first_use(kit):
+def first_use(kit, file="sound.phs"):
     """The line of a first use, with a stand-in for the kit's `rt` among the tools where one is given."""
     lay = "printf '#!/bin/sh\\n%s\\n' >tools/rt && chmod +x tools/rt && " % kit if kit else ""
-    return lay + "rm -r target && PATH=$PWD/tools ./measure sound.phs"
+    return lay + "rm -r target && PATH=$PWD/tools ./measure " + file
 
 
 def builds():
@@ -128,6 +128,10 @@ def builds():
     yield Case(first_use("exit 0"), 2, said="No such file or directory")
     yield Case(first_use("echo proved; PATH=/usr/bin:/bin; mkdir -p target/bin; cp program target/bin/listing"),
                0, SOUND, "proved")
+    # what the building reads is not the file, even where that is standard input
+    yield Case(first_use("PATH=/usr/bin:/bin; cat; mkdir -p target/bin; cp program target/bin/listing",
+                         "/dev/stdin < <(/bin/cat sound.phs)"),
+               0, SOUND)
     yield Case("PATH=$PWD/tools ./measure sound.phs", 0, SOUND)
 
 
@@ -174,29 +178,30 @@ def reset_after(data):
     return server.getsockname()[1]
 
 
-def lay_out(folder, program, stand_in):
-    """A folder with the script, the program, the tools and the files."""
+def lay_out(folder, program, case):
+    """A folder with the script, the program or the case's stand-in, the tools and the files."""
     os.chmod(folder, 0o755)
     shutil.copy(SCRIPT, os.path.join(folder, "measure"))
     shutil.copy(program, os.path.join(folder, "program"))
     built = os.path.join(folder, "target", "bin", "listing")
     os.makedirs(os.path.dirname(built))
     shutil.copy(program, built)
-    if stand_in is not None:
-        write(built, b"#!/bin/sh\n" + stand_in.encode())
+    if case.stand_in is not None:
+        write(built, b"#!/bin/sh\n" + case.stand_in.encode())
     os.mkdir(os.path.join(folder, "tools"))
     for tool in TOOLS:
         os.symlink(shutil.which(tool), os.path.join(folder, "tools", tool))
     for name, data in FILES.items():
         write(os.path.join(folder, name + ".phs"), data)
-    write(os.path.join(folder, "huge.phs"), header(50, 50))
-    os.truncate(os.path.join(folder, "huge.phs"), HUGE_BYTES)
+    if "huge.phs" in case.line:
+        write(os.path.join(folder, "huge.phs"), header(50, 50))
+        os.truncate(os.path.join(folder, "huge.phs"), HUGE_BYTES)
 
 
 def ran(case, program):
     """The status, the text and the message of a case; the status is None where it runs on."""
     with tempfile.TemporaryDirectory() as folder:
-        lay_out(folder, program, case.stand_in)
+        lay_out(folder, program, case)
         run = subprocess.Popen(["bash", "-c", case.line], cwd=folder, env={**os.environ, "LC_ALL": "C"},
                                stdin=subprocess.DEVNULL, stdout=subprocess.PIPE, stderr=subprocess.PIPE,
                                pass_fds=(UNREAD,), start_new_session=True)

@@ -5,12 +5,13 @@ use Prim.Native.Nat.{ℕ}
 use native.Mathlib.Omega.{arith}
 use lib.IntN.{ℤ, pos, natAbs}
 use lib.ListN.{getD, take, drop}
+use lib.Ieee.{Float, binary64, ofInt, div, toBits}
 use Rattle.ints.specs.Whole.{sum}
 use Rattle.bits.specs.Bits.{signedIn, bits16}
 use Rattle.sampling.specs.Tags.{servedRate, keptRate}
 use Rattle.model.specs.Filter.{weight, offset, phaseSum, term, weighted, positive}
 use Rattle.model.specs.Angle.{arctan, scaled, turned, step, steps, noPhase, phaseAngle, phaseOf}
-use Rattle.model.specs.Report.{secondDifference, differences, joined, phaseAt, figuresAt}
+use Rattle.model.specs.Report.{secondDifference, differences, over, joined, phaseAt, figuresAt}
 use Rattle.feed.specs.Answers.{Said, refused, done, taken, takenWith, tagged}
 use Rattle.feed.specs.Places.{zeros, sampleOf, placeOf, samplesOf, withPlace}
 use Rattle.feed.specs.History.{isDue, reportAt, answered}
@@ -46,7 +47,11 @@ reOf done = pos 0
 reOf taken = pos 0
 reOf (takenWith soc frame re im d1 d2 mark rePeak imPeak deviation rocof) = re
 
--- the re and the d1 of a whole run's figures
+-- the same of a whole run: which answer it is, and the re, the d1 and the deviation of its figures
+abbrev runKind : RunSaid → ℕ
+runKind (runRefused n) = 0
+runKind (figures re im d1 d2 mark rePeak imPeak deviation rocof) = 1
+
 abbrev runRe : RunSaid → ℤ
 runRe (runRefused n) = pos 0
 runRe (figures re im d1 d2 mark rePeak imPeak deviation rocof) = re
@@ -54,6 +59,10 @@ runRe (figures re im d1 d2 mark rePeak imPeak deviation rocof) = re
 abbrev runD1 : RunSaid → ℤ
 runD1 (runRefused n) = pos 0
 runD1 (figures re im d1 d2 mark rePeak imPeak deviation rocof) = d1
+
+abbrev runDeviation : RunSaid → Float
+runDeviation (runRefused n) = ofInt binary64 (pos 0)
+runDeviation (figures re im d1 d2 mark rePeak imPeak deviation rocof) = deviation
 
 -- which answer a call gives
 answer-is : {x y : Outcome} → x ≡ y → kindOf (x .answer) ≡ kindOf (y .answer)
@@ -68,7 +77,7 @@ same-size : {x y z : ℤ} → x ≡ y → x ≡ z → natAbs y ≡ natAbs z
 same-size p q = ap natAbs (sym p ∙ q)
 
 refuses-everything : RefusesEverything
-unfolding cleared openedAt pushedAt closedAt slotAt withSlot headIn headBytes placesIn tailIn tailOf feedIn slotOf freeSlot blank stray isDamaged unserved uneven early faulty opened nextHead stored historyOf pushed zeros servedRate keptRate sampleOf placeOf samplesOf withPlace signedIn bits16 isDue answered measured judgement errorsOf verdictOn isMark versionIn socIn headed
+unfolding cleared openedAt pushedAt closedAt slotAt withSlot headIn headBytes placesIn tailIn tailOf feedIn slotOf freeSlot blank stray isDamaged unserved uneven early faulty opened nextHead stored historyOf pushed zeros servedRate keptRate sampleOf placeOf samplesOf withPlace signedIn bits16 isDue answered measured judgement errorsOf verdictOn isMark versionIn socIn headed sum weight offset phaseSum term weighted positive arctan scaled turned step steps noPhase phaseAngle phaseOf secondDifference differences joined phaseAt figuresAt tagged reportAt
 refuses-everything = record {
   clearing = λ n after p. omega (arith, answer-is p);
   opening = λ n after p. omega (arith, answer-is p);
@@ -76,7 +85,7 @@ refuses-everything = record {
   closing = λ n after p. omega (arith, answer-is p);
   feeding = λ n next p. let e = ap (λ (o : Next). kindOf (o .answer)) p in omega (arith, e);
   judging = λ n p. let z : _≡_ {A = ℕ} 0 1 = cc in omega arith;
-  measuring = λ n p. let z : _≡_ {A = ℕ} 0 1 = cc in omega arith;
+  measuring = λ n p. let e = ap runKind p in omega (arith, e);
   heading = λ n p. let z : _≡_ {A = ℕ} 0 1 = cc in omega arith;
 }
 
@@ -93,14 +102,15 @@ useless-models = record {
       sym (ap (λ (o : Outcome). getD (slotAt (o .bank) 15) 0 0) p) ∙ ap (λ (l : List ℕ). getD l 0 0) q);
   push-pretended = λ r after p q. one-not-zero (
       sym (ap (λ (o : Outcome). getD (slotAt (o .bank) 15) 3 0) p) ∙ ap (λ (l : List ℕ). getD l 3 0) q);
+  report-withheld = λ after p. omega (arith, answer-is p);
   report-of-slot-0 = λ r after p. omega (arith, answer-is p);
 }
 
 pub slips : Slips
-unfolding openedAt pushedAt closedAt slotAt withSlot headIn headBytes placesIn tailIn tailOf feedIn slotOf freeSlot blank stray isDamaged unserved uneven early faulty opened nextHead stored historyOf zeros servedRate keptRate sampleOf placeOf samplesOf withPlace signedIn bits16 sum weight offset phaseSum term weighted positive arctan scaled turned step steps noPhase phaseAngle phaseOf secondDifference differences joined phaseAt figuresAt tagged isDue reportAt answered measured
+unfolding openedAt pushedAt closedAt slotAt withSlot headIn headBytes placesIn tailIn tailOf feedIn slotOf freeSlot blank stray isDamaged unserved uneven early faulty opened nextHead stored historyOf zeros servedRate keptRate sampleOf placeOf samplesOf withPlace signedIn bits16 sum weight offset phaseSum term weighted positive arctan scaled turned step steps noPhase phaseAngle phaseOf secondDifference differences joined phaseAt figuresAt tagged isDue reportAt answered measured over ofInt div toBits
 slips = record {
   negative-sequence = λ r p q. let e = ap (λ (s : RunSaid). natAbs (runRe s)) (sym p ∙ q) in omega (arith, e);
-  not-wrapped = λ f p q. let e = same-size (ap runD1 p) q in omega (arith, e);
+  not-wrapped = λ f p q. let e = ap (toBits binary64) (sym (ap runDeviation p) ∙ q) in omega (arith, e);
   newest-time = λ r after p soc frame. let e = ap (λ (o : Outcome). frameOf (o .answer)) p in omega (arith, e, frame);
   floored = λ f p. ap runD1 p;
   truncating = λ f p q. let e = same-size (ap runD1 p) q in omega (arith, e);

@@ -1,8 +1,6 @@
 -- Every public function's contract is the relation itself, and the relation admits one outcome. Assumes nothing.
 use denote.Ref.{now}
-use mathlib.Core.Path.{_≡_, ap, sym, _∙_}
-use mathlib.Core.List.{List}
-use Prim.Native.Nat.{ℕ}
+use mathlib.Core.Path.{_≡_, ap}
 use Rattle.bits.proofs.Unique.{be16-unique, be32-unique, signed16-unique, signed32-unique}
 use Rattle.sampling.proofs.Unique.{nominal-sampling-unique, served-nominal-unique, served-rate-unique, kept-rate-unique, nominal-of-unique}
 use Rattle.header.proofs.Unique.{read-header-unique}
@@ -25,85 +23,85 @@ pub tied : Tied
 tied = record {
   bits-be16-asks-nothing = λ κs a. tt;
   bits-be16-says = λ κs a r s p. p;
-  bits-be16-one = λ κs a r q s t. be16-unique (a .0) (a .1 .0) r q;
+  bits-be16-unique = λ κs a r q s t. be16-unique (a .0) (a .1 .0) r q;
   bits-be32-asks-nothing = λ κs a. tt;
   bits-be32-says = λ κs a r s p. p;
-  bits-be32-one = λ κs a r q s t. be32-unique (a .0) (a .1 .0) (a .1 .1 .0) (a .1 .1 .1 .0) r q;
+  bits-be32-unique = λ κs a r q s t. be32-unique (a .0) (a .1 .0) (a .1 .1 .0) (a .1 .1 .1 .0) r q;
   bits-signed16-asks-nothing = λ κs a. tt;
   bits-signed16-says = λ κs a r s p. p;
-  bits-signed16-one = λ κs a r q s t. signed16-unique (a .0) r q;
+  bits-signed16-unique = λ κs a r q s t. signed16-unique (a .0) r q;
   bits-signed32-asks-nothing = λ κs a. tt;
   bits-signed32-says = λ κs a r s p. p;
-  bits-signed32-one = λ κs a r q s t. signed32-unique (a .0) r q;
+  bits-signed32-unique = λ κs a r q s t. signed32-unique (a .0) r q;
   sampling-nominal-sampling-asks-nothing = λ κs a. tt;
   sampling-nominal-sampling-says = λ κs a r s p. p;
-  sampling-nominal-sampling-one = λ κs a r q s t. nominal-sampling-unique (a .0) r q;
+  sampling-nominal-sampling-unique = λ κs a r q s t. nominal-sampling-unique (a .0) r q;
   sampling-served-nominal-asks-nothing = λ κs a. tt;
   sampling-served-nominal-says = λ κs a r s p. p;
-  sampling-served-nominal-one = λ κs a r q s t. served-nominal-unique (a .0) r q;
+  sampling-served-nominal-unique = λ κs a r q s t. served-nominal-unique (a .0) r q;
   sampling-served-rate-asks-nothing = λ κs a. tt;
   sampling-served-rate-says = λ κs a r s p. p;
-  sampling-served-rate-one = λ κs a r q s t. served-rate-unique (a .0) (a .1 .0) r q;
+  sampling-served-rate-unique = λ κs a r q s t. served-rate-unique (a .0) (a .1 .0) r q;
   sampling-kept-rate-asks-nothing = λ κs a. tt;
   sampling-kept-rate-says = λ κs a r s p. p;
-  sampling-kept-rate-one = λ κs a r q s t. kept-rate-unique (a .0) (a .1 .0) r q;
+  sampling-kept-rate-unique = λ κs a r q s t. kept-rate-unique (a .0) (a .1 .0) r q;
   sampling-nominal-of-asks-nothing = λ κs a. tt;
   sampling-nominal-of-says = λ κs a r s p. p;
-  sampling-nominal-of-one = λ κs a r q s t. nominal-of-unique (a .0) r q;
+  sampling-nominal-of-unique = λ κs a r q s t. nominal-of-unique (a .0) r q;
   header-read-header-asks-nothing = λ κs a. tt;
   header-read-header-says = λ κs a r s p. p;
-  header-read-header-one = λ κs a r q s t. read-header-unique (now (a .0)) r q;
+  header-read-header-unique = λ κs a r q s t. read-header-unique (now (a .0)) r q;
   text-put-asks-nothing = λ κs a. tt;
   text-put-says = λ κs a r s p. p;
-  text-put-one = λ κs a r q s t x y. both (put-unique (now (a .0)) (a .1 .0) (now (a .1 .1 .0)) (a .1 .1 .1 .0) r q (now (s .1 .1 .0)) (now (t .1 .1 .0)) x y);
+  text-put-unique = λ κs a r q s t x y. both (put-unique (now (a .0)) (a .1 .0) (now (a .1 .1 .0)) (a .1 .1 .1 .0) r q (now (s .1 .1 .0)) (now (t .1 .1 .0)) x y);
   text-put-hex-asks-nothing = λ κs a. tt;
   text-put-hex-says = λ κs a r s p. p;
-  text-put-hex-one = λ κs a r q s t x y. both (put-hex-unique (now (a .0)) (now (a .1 .0)) (a .1 .1 .0) r q (now (s .1 .0)) (now (t .1 .0)) x y);
+  text-put-hex-unique = λ κs a r q s t x y. both (put-hex-unique (now (a .0)) (now (a .1 .0)) (a .1 .1 .0) r q (now (s .1 .0)) (now (t .1 .0)) x y);
   model-measure-asks-nothing = λ κs a. tt;
   model-measure-says = λ κs a r s p. p;
-  model-measure-one = λ κs a r q s t. measure-unique (a .0) (a .1 .0) (a .1 .1 .0) r q;
+  model-measure-unique = λ κs a r q s t. measure-unique (a .0) (a .1 .0) (a .1 .1 .0) r q;
   feed-head-is-faulty-asks-nothing = λ κs a. tt;
   feed-head-is-faulty-says = λ κs a r s p. p;
-  feed-head-is-faulty-one = λ κs a r q s t. head-is-faulty-unique (a .0) r q;
+  feed-head-is-faulty-unique = λ κs a r q s t. head-is-faulty-unique (a .0) r q;
   feed-feed-open-asks-nothing = λ κs a. tt;
   feed-feed-open-says = λ κs a r s p. p;
-  feed-feed-open-one = λ κs a r q s t. feed-open-unique (a .0) (a .1 .0) (a .1 .1 .0) r q;
+  feed-feed-open-unique = λ κs a r q s t. feed-open-unique (a .0) (a .1 .0) (a .1 .1 .0) r q;
   feed-feed-push-asks-nothing = λ κs a. tt;
   feed-feed-push-says = λ κs a r s p. p;
-  feed-feed-push-one = λ κs a r q s t. feed-push-unique (a .0) (a .1 .0) r q;
+  feed-feed-push-unique = λ κs a r q s t. feed-push-unique (a .0) (a .1 .0) r q;
   feed-sample-of-asks-nothing = λ κs a. tt;
   feed-sample-of-says = λ κs a r s p. p;
-  feed-sample-of-one = λ κs a r q s t. sample-of-unique (a .0) r q;
+  feed-sample-of-unique = λ κs a r q s t. sample-of-unique (a .0) r q;
   bank-clear-asks-nothing = λ κs a. tt;
   bank-clear-says = λ κs a r s p. p;
-  bank-clear-one = λ κs a r q s t. clear-unique (now (a .0)) r q (now (s .0)) (now (t .0));
+  bank-clear-unique = λ κs a r q s t. clear-unique (now (a .0)) r q (now (s .0)) (now (t .0));
   bank-open-asks-nothing = λ κs a. tt;
   bank-open-says = λ κs a r s p. p;
-  bank-open-one = λ κs a r q s t. open-unique (now (a .0)) (a .1 .0) (a .1 .1 .0) (a .1 .1 .1 .0) (a .1 .1 .1 .1 .0) r q (now (s .0)) (now (t .0));
+  bank-open-unique = λ κs a r q s t. open-unique (now (a .0)) (a .1 .0) (a .1 .1 .0) (a .1 .1 .1 .0) (a .1 .1 .1 .1 .0) r q (now (s .0)) (now (t .0));
   bank-push-asks-nothing = λ κs a. tt;
   bank-push-says = λ κs a r s p. p;
-  bank-push-one = λ κs a r q s t. push-unique (now (a .0)) (a .1 .0) (a .1 .1 .0) r q (now (s .0)) (now (t .0));
+  bank-push-unique = λ κs a r q s t. push-unique (now (a .0)) (a .1 .0) (a .1 .1 .0) r q (now (s .0)) (now (t .0));
   bank-close-asks-nothing = λ κs a. tt;
   bank-close-says = λ κs a r s p. p;
-  bank-close-one = λ κs a r q s t. close-unique (now (a .0)) (a .1 .0) r q (now (s .0)) (now (t .0));
+  bank-close-unique = λ κs a r q s t. close-unique (now (a .0)) (a .1 .0) r q (now (s .0)) (now (t .0));
   runs-measure-asks-nothing = λ κs a. tt;
   runs-measure-says = λ κs a r s p. p;
-  runs-measure-one = λ κs a r q s t. run-unique (now (a .0)) (now (a .1 .0)) (now (a .1 .1 .0)) (a .1 .1 .1 .0) (a .1 .1 .1 .1 .0) r q;
+  runs-measure-unique = λ κs a r q s t. run-unique (now (a .0)) (now (a .1 .0)) (now (a .1 .1 .0)) (a .1 .1 .1 .0) (a .1 .1 .1 .1 .0) r q;
   verdict-judge-asks-nothing = λ κs a. tt;
   verdict-judge-says = λ κs a r s p. p;
-  verdict-judge-one = λ κs a r q s t. judge-unique (a .0) (a .1 .0) (a .1 .1 .0) (a .1 .1 .1 .0) (a .1 .1 .1 .1 .0) r q;
+  verdict-judge-unique = λ κs a r q s t. judge-unique (a .0) (a .1 .0) (a .1 .1 .0) (a .1 .1 .1 .0) (a .1 .1 .1 .1 .0) r q;
   phs-start-asks-nothing = λ κs a. tt;
   phs-start-says = λ κs a r s p. p;
-  phs-start-one = λ κs a r q s t. start-unique r q;
+  phs-start-unique = λ κs a r q s t. start-unique r q;
   phs-read-part-asks-nothing = λ κs a. tt;
   phs-read-part-says = λ κs a r s p. p;
-  phs-read-part-one = λ κs a r q s t x y.
+  phs-read-part-unique = λ κs a r q s t x y.
       let e = read-part-unique (a .0) (now (a .1 .0)) (now (a .1 .1 .0)) (now (a .1 .1 .1 .0)) r q (now (s .1 .0)) (now (t .1 .0)) (now (s .1 .1 .1 .0)) (now (t .1 .1 .1 .0)) x y in
       (ap (λ (o : Read). o .moved) e, ap (λ (o : Read). (o .bank, o .out)) e);
   phs-finish-asks-nothing = λ κs a. tt;
   phs-finish-says = λ κs a r s p. p;
-  phs-finish-one = λ κs a r q s t x y. both (finish-unique (a .0) (now (a .1 .0)) r q (now (s .1 .0)) (now (t .1 .0)) x y);
+  phs-finish-unique = λ κs a r q s t x y. both (finish-unique (a .0) (now (a .1 .0)) r q (now (s .1 .0)) (now (t .1 .0)) x y);
   reads-meaning-asks-nothing = λ κs a. tt;
   reads-meaning-says = λ κs a r s p. p;
-  reads-meaning-one = λ κs a r q s t. meaning-unique (a .0) r q;
+  reads-meaning-unique = λ κs a r q s t. meaning-unique (a .0) r q;
 }

@@ -1,5 +1,5 @@
--- The endings differ, and buffers that are not cramped have room for a line. Assumes nothing.
-use mathlib.Core.Path.{_≡_, ap, subst}
+-- Buffers that are not cramped have room for a line. Assumes nothing.
+use mathlib.Core.Path.{_≡_, subst}
 use mathlib.Core.Bool.{Bool, true, false, _||_}
 use mathlib.Core.List.{List}
 use Prim.Native.Nat.{ℕ, _≤_}
@@ -7,13 +7,7 @@ use borrow.Author.Tests.{ltb-false}
 use lib.Dec.{T, eqb, ltb}
 use lib.ListN.{length}
 use Rattle.phs.specs.Lines.{lineRoom}
-use Rattle.lister.specs.declared.Ending.{Ending}
-use Rattle.lister.specs.declared.Ending.the-variants.{NoRoom}
-use Rattle.lister.specs.Listing.{cramped, status}
-
--- an ending of another status is not that there is no room
-pub has-room : (r : Ending) → (status r ≡ 3 → ⊥) → r ≡ NoRoom → ⊥
-has-room r h e = h (ap status e)
+use Rattle.lister.specs.Listing.{cramped}
 
 neither : (t u : Bool) → (t || u) ≡ false → u ≡ false
 neither true u e = absurd (subst T e tt)

@@ -2,3 +2,4 @@
 pub mod Given
 pub mod Endings
 pub mod Counted
+pub mod Says

@@ -1,25 +1,23 @@
--- What the functions inside promise of one read: whatever it brings is read to its end, and only a count of 0 ends the input.
+-- What the functions inside promise of one read, by its count: all that it brings is read, and the input ends with a count of 0 or a refusal.
 use mathlib.Core.Path.{_≡_}
 use mathlib.Core.List.{List}
 use Prim.Native.Nat.{ℕ}
-use lib.IntN.{ℤ}
 use lib.ListN.{take}
 use Rattle.phs.specs.declared.Reader.{Reader}
 use Rattle.phs.specs.declared.Stage.{Stage}
-use Rattle.phs.specs.declared.Stage.the-variants.{InHeader, InSamples, Over as Refused}
+use Rattle.phs.specs.declared.Stage.the-variants.{InHeader, InSamples, Over}
 use Rattle.phs.specs.Stream.{stream}
 use Rattle.reads.specs.declared.Brought.{Brought}
 use Rattle.reads.specs.declared.Brought.the-variants.{Failed, End, Bytes}
-use Rattle.reads.specs.Counts.{meaning}
 use Rattle.lister.specs.declared.State.{State}
-use Rattle.lister.specs.declared.State.the-variants.{Going, Over, Unread, Unwritten}
+use Rattle.lister.specs.declared.State.the-variants.{Going, Ended, Unread, Unwritten}
 use Rattle.lister.specs.declared.Turn.{Turn}
 
 -- after a refusal no more is read
-abbrev pub stateIn : Stage → State
-stateIn InHeader = Going
-stateIn InSamples = Going
-stateIn Refused = Over
+abbrev pub stateAfter : Stage → State
+stateAfter InHeader = Going
+stateAfter InSamples = Going
+stateAfter Over = Ended
 
 -- the bytes so far, from the reader r and this bank, leave the reader q and this bank
 pub record Flowed (r : Reader) (bank bytes : List ℕ) (q : Reader) (bank′ : List ℕ) : Type 0 where
@@ -28,16 +26,11 @@ pub record Flowed (r : Reader) (bank bytes : List ℕ) (q : Reader) (bank′ : L
 
 -- all of the part is read, and the listing goes on unless a refusal is said; or its text can't be written
 pub data Gives (r : Reader) (bank part : List ℕ) (t : Turn) (bank′ : List ℕ) : Type 0 where
-  whole : Flowed r bank part (t .reader) bank′ → t .state ≡ stateIn (t .reader .stage) → Gives r bank part t bank′
+  whole : Flowed r bank part (t .reader) bank′ → t .state ≡ stateAfter (t .reader .stage) → Gives r bank part t bank′
   cut-short : t .state ≡ Unwritten → Gives r bank part t bank′
 
--- what one read comes to, by what it brought, where these bytes are in the buffer
-abbrev pub Comes : Brought → (r : Reader) (bank input : List ℕ) (t : Turn) (bank′ : List ℕ) → Type 0
-Comes Failed r bank input t bank′ = (t ≡ record { reader = r; state = Unread }) × (bank′ ≡ bank)
-Comes End r bank input t bank′ = (t ≡ record { reader = r; state = Over }) × (bank′ ≡ bank)
-Comes (Bytes n) r bank input t bank′ = Gives r bank (take n input) t bank′
-
--- whatever count the read answers
-pub record Takes (r : Reader) (bank input : List ℕ) (t : Turn) (bank′ : List ℕ) : Type 0 where
-  pub count : ℤ
-  pub comes : Comes (meaning count) r bank input t bank′
+-- what one read comes to, by what it brought into these bytes of the buffer
+pub data Comes (r : Reader) (bank input : List ℕ) (t : Turn) (bank′ : List ℕ) : Brought → Type 0 where
+  fails : t ≡ record { reader = r; state = Unread } → bank′ ≡ bank → Comes r bank input t bank′ Failed
+  ends : t ≡ record { reader = r; state = Ended } → bank′ ≡ bank → Comes r bank input t bank′ End
+  goes-on : {n : ℕ} → Gives r bank (take n input) t bank′ → Comes r bank input t bank′ (Bytes n)

@@ -13,15 +13,17 @@ use Rattle.lister.specs.declared.Ending.the-variants.{Listed, Unread, Un
 abbrev pub cramped : (input out : List ℕ) → Bool
 cramped input out = eqb (length input) 0 || ltb (length out) lineRoom
 
--- each ending, as the program's messages tell them apart: 0 the listing is written, 1 a read failed, 2 a write failed, 3 no room, 4 no end
-abbrev pub status : Ending → ℕ
-status Listed = 0
-status Unread = 1
-status Unwritten = 2
-status NoRoom = 3
-status Endless = 4
+-- whether an ending says so
+abbrev pub isNoRoom : Ending → Bool
+isNoRoom Listed = false
+isNoRoom Unread = false
+isNoRoom Unwritten = false
+isNoRoom NoRoom = true
+isNoRoom Endless = false
 
--- `list`, lent this bank and these buffers: where there is no room it says so, and the bank stays as it is; it says so nowhere else
-pub record Lists (bank input out : List ℕ) (r : Ending) (after : List ℕ) : Type 0 where
-  pub without-room : cramped input out ≡ true → (r ≡ NoRoom) × (after ≡ bank)
-  pub with-room : cramped input out ≡ false → r ≡ NoRoom → ⊥
+-- `list`, lent this bank and these buffers
+pub record Lists (bank input out : List ℕ) (r : Ending) (bank′ input′ out′ : List ℕ) : Type 0 where
+  -- it says that there is no room where there is none, and nowhere else
+  pub said-so : isNoRoom r ≡ cramped input out
+  -- and then it alters no lent byte
+  pub alters-nothing : cramped input out ≡ true → (bank′ ≡ bank) × (input′ ≡ input) × (out′ ≡ out)

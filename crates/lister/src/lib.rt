@@ -1,11 +1,13 @@
 // The listing of the PHS file that a descriptor is read from, written to another, through lent buffers.
 ghost use mathlib.Core.Path.{_≡_};
-ghost use Prim.Native.Nat.{_≤_, _<_};
+ghost use mathlib.Core.Bool.{false};
+ghost use Prim.Native.Nat.{_≤_};
 ghost use lib.ListN.{length};
+ghost use Rattle.libc.specs.Io.{Moved};
 ghost use Rattle.phs.specs.Lines.{lineRoom};
-ghost use Rattle.lister.specs.declared.Ending.the-variants.{NoRoom};
-ghost use Rattle.lister.specs.Listing.{Lists};
-ghost use Rattle.lister.specs.Inside.{stateIn, Gives, Takes};
+ghost use Rattle.reads.specs.Counts.{meaning};
+ghost use Rattle.lister.specs.Listing.{isNoRoom, Lists};
+ghost use Rattle.lister.specs.Inside.{stateAfter, Gives, Comes};
 use phs::Reader;
 use phs::Stage;
 use reads::Brought;
@@ -15,7 +17,7 @@ const LINE: usize = 256;
 
 // How a listing ends.
 pub enum Ending {
-    // it is written, to its last line
+    // it is written to its last line, a refusal's among them
     Listed,
     // a read has failed: the text has no last line
     Unread,
@@ -31,7 +33,7 @@ pub enum Ending {
 enum State {
     Going,
     // the input has ended, or a refusal is said
-    Over,
+    Ended,
     Unread,
     Unwritten,
 }
@@ -42,10 +44,12 @@ struct Turn {
     state: State,
 }
 
-// Reads the file from one descriptor, a part at a time to its end or to its refusal, and writes the listing to the other. The bank is for the
-// feed that the file is measured as.
+// Reads the file from one descriptor, a part at a time to its end or to its refusal, and writes the listing to the other. A whole header clears
+// the bank and opens slot 0, which stays open; of a bank that is not 4096 bytes the listing is `refused 1`.
 pub fn list(bank: &mut [u8], input: &mut [u8], out: &mut [u8], from: i32, to: i32) -> Ending
-    ensures { λ r. ⌜ Lists (now (bank .entry)) (now (input .entry)) (now (out .entry)) r (now (bank .exit)) ⌝ }
+    ensures { λ r. ⌜
+        Lists (now (bank .entry)) (now (input .entry)) (now (out .entry)) r (now (bank .exit)) (now (input .exit)) (now (out .exit))
+        ⌝ }
 {
     if (input.len() == 0) | (out.len() < LINE) {
         return Ending::NoRoom;
@@ -56,7 +60,7 @@ pub fn list(bank: &mut [u8], input: &mut [u8], out: &mut [u8], from: i32, to: i3
 // The whole input, a read at a time, or as far as a refusal.
 fn list_all(bank: &mut [u8], input: &mut [u8], out: &mut [u8], from: i32, to: i32) -> Ending
     requires { ⌜ lineRoom ≤ length (now out) ⌝ }
-    ensures { λ r. ⌜ (r ≡ NoRoom → ⊥) ⌝ }
+    ensures { λ r. ⌜ isNoRoom r ≡ false ⌝ }
 {
     let mut reader = phs::start();
     // A loop has to end: these are more reads than a run can make.
@@ -68,7 +72,7 @@ fn list_all(bank: &mut [u8], input: &mut [u8], out: &mut [u8], from: i32, to: i3
         let state = t.state;
         match state {
             State::Going => {}
-            State::Over => {
+            State::Ended => {
                 return finish(reader, out, to);
             }
             State::Unread => {
@@ -92,9 +96,16 @@ fn read_some(
     to: i32,
 ) -> Turn
     requires { ⌜ lineRoom ≤ length (now out) ⌝ }
-    ensures { λ t. ⌜ Takes r (now (bank .entry)) (now (input .exit)) t (now (bank .exit)) ⌝ }
 {
     let got = libc::read(from, input);
+    take(r, bank, input, got, out, to)
+}
+
+// What a read brought, by the count that it answered.
+fn take(r: Reader, bank: &mut [u8], input: &[u8], got: isize, out: &mut [u8], to: i32) -> Turn
+    requires { ⌜ (lineRoom ≤ length (now out)) × Moved (length (now input)) got ⌝ }
+    ensures { λ t. ⌜ Comes r (now (bank .entry)) (now (input .entry)) t (now (bank .exit)) (meaning got) ⌝ }
+{
     let brought = reads::meaning(got);
     match brought {
         Brought::Failed => Turn {
@@ -103,7 +114,7 @@ fn read_some(
         },
         Brought::End => Turn {
             reader: r,
-            state: State::Over,
+            state: State::Ended,
         },
         Brought::Bytes(n) => give(r, bank, &input[..n], out, to),
     }
@@ -134,19 +145,19 @@ fn give(r: Reader, bank: &mut [u8], part: &[u8], out: &mut [u8], to: i32) -> Tur
 
 // After a refusal no more is read.
 fn state_of(r: Reader) -> State
-    ensures { λ s. ⌜ s ≡ stateIn (r .stage) ⌝ }
+    ensures { λ s. ⌜ s ≡ stateAfter (r .stage) ⌝ }
 {
     let stage = r.stage;
     match stage {
         Stage::InHeader => State::Going,
         Stage::InSamples => State::Going,
-        Stage::Over => State::Over,
+        Stage::Over => State::Ended,
     }
 }
 
 // The last line.
 fn finish(r: Reader, out: &mut [u8], to: i32) -> Ending
-    ensures { λ e. ⌜ (e ≡ NoRoom → ⊥) ⌝ }
+    ensures { λ e. ⌜ isNoRoom e ≡ false ⌝ }
 {
     let n = phs::finish(r, out);
     if io::write_all(to, &out[..n]) {

@@ -4,7 +4,7 @@ use libc::STDIN_FILENO;
 use libc::STDOUT_FILENO;
 use lister::Ending;
 
-// The program. Where the listing has no end, standard error says why.
+// The program. Where the listing has no last line, standard error says why.
 fn main() {
     // 4096 bytes: the bank
     let mut bank = io::buffer();

@@ -1,4 +1,4 @@
-// Lists the stored files of its folder in turn, through the loop of `listing`: every refusal of a file, both nominals, short files and long ones.
+// Lists the stored files of its folder in turn, through `lister::list`: every refusal of a file, both nominals, short files and long ones.
 use libc::STDERR_FILENO;
 use libc::STDOUT_FILENO;
 use lister::Ending;
@@ -50,7 +50,7 @@ fn list_thrice(name: &[u8]) {
     list_file(name, &mut bank, &mut input, &mut line);
 }
 
-// The listing of a file. Where it has no end, standard error says so.
+// The listing of a file. Where it has no last line, standard error says so.
 fn list_file(name: &[u8], bank: &mut [u8], input: &mut [u8], out: &mut [u8]) {
     let file = os::open_read(name);
     if file < 0 {
@@ -62,7 +62,7 @@ fn list_file(name: &[u8], bank: &mut [u8], input: &mut [u8], out: &mut [u8]) {
     libc::close(file);
 }
 
-// Why a listing has no end.
+// Why a listing has no last line.
 fn say(name: &[u8], ending: Ending) {
     match ending {
         Ending::Listed => {}

@@ -37,7 +37,7 @@ started = readerAt InHeader 0 0
 unfoldable pub keeping : Reader → ℕ → Reader
 keeping r b = record { stage = r .stage; held = r .held + 1; kept = set (r .kept) (r .held) b; reports = r .reports; samples = r .samples }
 
--- a byte that gives no text and leaves the bank
+-- no text, and the bank stays
 abbrev pub wordless : Reader → List ℕ → Left
 wordless r bank = record { reader = r; bank = bank; text = [] }
 
@@ -91,7 +91,7 @@ afterByte r bank b = afterByteIn (r .stage) r bank b
 
 -- ---- bytes in a row
 
--- what a byte leaves, and then the others
+-- what some bytes leave, and then those after them
 abbrev pub after : Left → Left → Left
 after n m = record { reader = m .reader; bank = m .bank; text = n .text ++ m .text }
 

@@ -141,23 +141,30 @@ fn read_on(memory: &mut [u8], input: &mut [u8], held: usize, out: &mut [u8], tex
             let next = ending(held);
             Turn { held, text, next }
         }
-        Brought::Bytes(_) => run_held(memory, input, held, got, out, text),
+        Brought::Bytes(n) => run_held(memory, input, held, n, out, text),
     }
 }
 
-// Runs the whole records of the bytes that are held and of those that the read brought after them, and holds the rest.
+// The number, or the most that there is room for.
+fn up_to(n: usize, most: usize) -> usize
+    ensures { λ r. ⌜ r ≤ most ⌝ }
+{
+    if n < most { n } else { most }
+}
+
+// Runs the whole records of the bytes that are held and of the n that the read brought after them, and holds the rest.
 fn run_held(
     memory: &mut [u8],
     input: &mut [u8],
     held: usize,
-    got: isize,
+    n: usize,
     out: &mut [u8],
     text: usize,
 ) -> Turn
     requires { ⌜ (held ≤ length (now input)) × (1024 ≤ length (now out)) × (text ≤ length (now out)) ⌝ }
     ensures { λ r. ⌜ (r .held ≤ length (now (input .exit))) × (r .text ≤ length (now (out .exit))) ⌝ }
 {
-    let end = held + io::count(got, &input[held..]);
+    let end = held + up_to(n, input.len() - held);
     let ran = run_all(&input[0..end], memory, out, text);
     let at = ran.at;
     let text = ran.text;

@@ -1,5 +1,5 @@
 -- `lister::list` meets its contract: the test of the buffers is the one that the contract makes. Assumes nothing.
-use mathlib.Core.Path.{_≡_, refl, sym, _∙_, subst}
+use mathlib.Core.Path.{refl, sym, _∙_, subst}
 use borrow.Author.Needs.{needs}
 use lib.Dec.{T}
 use Rattle.lister.proofs.Endings.{roomy}
@@ -7,7 +7,7 @@ use Rattle.lister.proofs.list.Statement.{statement}
 use Rattle.lister.proofs.list.Tie as tie
 
 returns : tie.Need-returns
-returns c = record { without-room = λ e. (refl, refl); with-room = λ e r. subst T (sym (c .if1 .taken) ∙ e) tt }
+returns c = record { said-so = sym (c .if1 .taken); alters-nothing = λ e. (refl, refl, refl) }
 
 list-all-requires : tie.Need-list-all-requires
 list-all-requires c κs = roomy (c .before .before .before .before .before .before .before .args .input .now) (c .before .before .before .before .before .before .before .args .out .now) (c .before .before .before .if1 .left)
@@ -22,10 +22,9 @@ same-length-3 : tie.Need-same-length-3
 same-length-3 c = search needs
 
 returns-2 : tie.Need-returns-2
-returns-2 c = record {
-  without-room = λ e. absurd (subst T (sym e ∙ c .before .before .before .before .before .before .before .before .before .before .if1 .left) tt);
-  with-room = λ e. c .before .before .before .before .before .before .list-all .ensures;
-}
+returns-2 c =
+    let left = c .before .before .before .before .before .before .before .before .before .before .if1 .left in
+    record { said-so = c .before .before .before .before .before .before .list-all .ensures ∙ sym left; alters-nothing = λ e. absurd (subst T (sym e ∙ left) tt) }
 
 pub list-spec : {M : Type 1} → statement M
 list-spec = tie.close (tie.spec returns list-all-requires same-length same-length-2 same-length-3 returns-2)
