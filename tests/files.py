@@ -231,6 +231,9 @@ def example_files():
 # `listings` lists each file once with each pair: the bytes of its input buffer and of its output buffer
 BUFFERS = ((65536, 65536), (7, 256), (65536, 256))
 
+# then, each by a word: no descriptor to read; none to write a line to, or the last line; no byte of input; an output of 255 bytes
+ENDINGS = (b"unread\n", b"unwritten\n", b"unwritten\n", b"no room\n", b"no room\n")
+
 
 def gone_on_with(seed, data, nominal, length):
     """A file gone on with to so many bytes or more: waves, noise and silence. Each read of 65536 bytes ends inside a
@@ -272,9 +275,9 @@ def stored_files():
 
 
 def listed_in_turn(named_files):
-    """The text that `listings` prints: each file's name, then its listing once for each pair of buffers."""
+    """The text that `listings` prints: each file's name, then its listing once for each pair of buffers; last the endings."""
     return b"".join(name.encode("ascii") + b".phs\n" + listing(data) * len(BUFFERS)
-                    for name, data in named_files.items())
+                    for name, data in named_files.items()) + b"".join(ENDINGS)
 
 
 # ---------------------------------------------------------------------------

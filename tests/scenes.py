@@ -77,9 +77,9 @@ def bank_lengths(maker):
 
 
 def every_slot(maker):
-    """All sixteen slots, and those over 15 though bytes lie there."""
+    """All sixteen slots, and every number over 15, though bytes lie at some."""
     maker.lay(16, held_slot(any_samples(maker.rng)))
-    for slot in list(SLOTS) + [16, 17, 31, 32, 128, 255]:
+    for slot in range(256):
         maker.push(slot)
         maker.close(slot)
         maker.open(slot, 50, 25, maker.rng.randint(0, LAST_SOC))
@@ -400,7 +400,10 @@ def windows_run(maker):
 
 
 def orders_of_judging(maker):
-    """Class, test, reference and m at once, each refused and not, and the extremes of m."""
+    """Every class and every test; class, test, reference and m at once, each refused and not; the extremes of m."""
+    for number in range(256):
+        maker.judge(number, 0, 3)
+        maker.judge(0, number, 3)
     for class_, test, re, im, m in itertools.product((0, 1, 2, 255), (0, 1, 2, 255), (0, 1), (0, -1), (1, 3)):
         maker.judge(class_, test, m, reference=(re, im, 0, 0))
     for class_, test in itertools.product((0, 1), repeat=2):

@@ -135,6 +135,14 @@ def builds():
     yield Case("PATH=$PWD/tools ./measure sound.phs", 0, SOUND)
 
 
+def by_itself():
+    """The program without the script ends with 0 and says what failed."""
+    yield Case("target/bin/listing <sound.phs >/dev/full", 0, said="listing: standard output: No space left on device")
+    yield Case("target/bin/listing <empty.phs >/dev/full", 0, said="listing: standard output: No space left on device")
+    yield Case("target/bin/listing <.", 0, said="listing: standard input: Is a directory")
+    yield Case("target/bin/listing <&-", 0, said="listing: standard input: Bad file descriptor")
+
+
 def cut_texts():
     """2 where the text does not end in a whole last line, or the program is killed."""
     whole, refused = "PHS 1 60 60\nreports 0 samples 9\n", "PHS 1 60 60\nrefused 15\n"
@@ -157,7 +165,7 @@ def ended_scripts():
     yield Case("./measure huge.phs >/dev/null & sleep 1; kill $!; wait $!", 128 + signal.SIGTERM)
 
 
-CASES = (whole_listings, refusals, wrong_uses, reads, writes, builds, cut_texts, ended_scripts)
+CASES = (whole_listings, refusals, wrong_uses, reads, writes, builds, by_itself, cut_texts, ended_scripts)
 
 
 # ---------------------------------------------------------------------------

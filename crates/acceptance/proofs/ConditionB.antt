@@ -87,14 +87,11 @@ each-run a b c centre nominal f p = go (through (runRefusals a b c centre nomina
         absurd (omega arith)
     go (passed q) = let e : Given f ≡ Given rule = ap unsaid (p ∙ granted refused (saidFigures rule) (runRefusals a b c centre nominal) q) in cc
 
-never-the-first : (h : History) → isDue h ≡ true → h .first + 15 ≤ centreOf h
-never-the-first h e = let l : 31 ≤ length (h .samples) = due-held h e in omega arith
-
 pub condition-b : ConditionB
 condition-b = record {
   each-report = each-report;
   each-push = each-push;
-  never-the-first = never-the-first;
+  never-the-first = λ h e. let l : 31 ≤ length (h .samples) = due-held h e in omega arith;
   each-run = each-run;
   same-figures = same-measurement;
   each-listing = every-cut;

@@ -8,6 +8,7 @@ fn main() {
     list_refused();
     list_sound();
     list_rest();
+    end_otherwise();
 }
 
 // Refused headers: 14, 14, 12, 13, 6, 7.
@@ -33,6 +34,49 @@ fn list_rest() {
     list_thrice(b"last_second.phs");
     list_thrice(b"long.phs");
     list_thrice(b"long_cut.phs");
+}
+
+// Endings without a listing, each by its word: no descriptor to read, none to write a line or the last line to, no room in either buffer.
+fn end_otherwise() {
+    let mut bank = io::buffer();
+    let mut input = io::large_buffer();
+    let mut out = io::large_buffer();
+    let mut less = [0u8; 255];
+    let mut none = [0u8; 0];
+    put_ending(lister::list(&mut bank, &mut input, &mut out, -1, STDOUT_FILENO));
+    put_ending(list_nowhere(b"sixty.phs", &mut bank, &mut input, &mut out));
+    put_ending(list_nowhere(b"empty.phs", &mut bank, &mut input, &mut out));
+    put_ending(lister::list(&mut bank, &mut none, &mut out, -1, STDOUT_FILENO));
+    put_ending(lister::list(&mut bank, &mut input, &mut less, -1, STDOUT_FILENO));
+}
+
+// The listing of a file, to no descriptor.
+fn list_nowhere(name: &[u8], bank: &mut [u8], input: &mut [u8], out: &mut [u8]) -> Ending {
+    let file = os::open_read(name);
+    let ending = lister::list(bank, input, out, file, -1);
+    libc::close(file);
+    ending
+}
+
+// An ending by its word.
+fn put_ending(ending: Ending) {
+    match ending {
+        Ending::Listed => {
+            io::write_all(STDOUT_FILENO, b"listed\n");
+        }
+        Ending::Unread => {
+            io::write_all(STDOUT_FILENO, b"unread\n");
+        }
+        Ending::Unwritten => {
+            io::write_all(STDOUT_FILENO, b"unwritten\n");
+        }
+        Ending::NoRoom => {
+            io::write_all(STDOUT_FILENO, b"no room\n");
+        }
+        Ending::Endless => {
+            io::write_all(STDOUT_FILENO, b"endless\n");
+        }
+    }
 }
 
 // The file's name, and its listing with three pairs of buffers: the input of 65536 bytes or of 7, the output of 65536 bytes or of one line. The
