@@ -1,5 +1,4 @@
 // Lists the stored files of its folder in turn, through `lister::list`: every refusal of a file, both nominals, short files and long ones.
-use libc::STDERR_FILENO;
 use libc::STDOUT_FILENO;
 use lister::Ending;
 
@@ -36,47 +35,30 @@ fn list_rest() {
     list_thrice(b"long_cut.phs");
 }
 
-// Endings without a listing, each by its word: no descriptor to read, none to write a line or the last line to, no room in either buffer.
+// Endings without a listing: no file to read, no descriptor to write a line or the last line to, no room in either buffer.
 fn end_otherwise() {
     let mut bank = io::buffer();
     let mut input = io::large_buffer();
     let mut out = io::large_buffer();
-    let mut less = [0u8; 255];
     let mut none = [0u8; 0];
-    put_ending(lister::list(&mut bank, &mut input, &mut out, -1, STDOUT_FILENO));
-    put_ending(list_nowhere(b"sixty.phs", &mut bank, &mut input, &mut out));
-    put_ending(list_nowhere(b"empty.phs", &mut bank, &mut input, &mut out));
-    put_ending(lister::list(&mut bank, &mut none, &mut out, -1, STDOUT_FILENO));
-    put_ending(lister::list(&mut bank, &mut input, &mut less, -1, STDOUT_FILENO));
-}
-
-// The listing of a file, to no descriptor.
-fn list_nowhere(name: &[u8], bank: &mut [u8], input: &mut [u8], out: &mut [u8]) -> Ending {
-    let file = os::open_read(name);
-    let ending = lister::list(bank, input, out, file, -1);
-    libc::close(file);
-    ending
-}
-
-// An ending by its word.
-fn put_ending(ending: Ending) {
-    match ending {
-        Ending::Listed => {
-            io::write_all(STDOUT_FILENO, b"listed\n");
-        }
-        Ending::Unread => {
-            io::write_all(STDOUT_FILENO, b"unread\n");
-        }
-        Ending::Unwritten => {
-            io::write_all(STDOUT_FILENO, b"unwritten\n");
-        }
-        Ending::NoRoom => {
-            io::write_all(STDOUT_FILENO, b"no room\n");
-        }
-        Ending::Endless => {
-            io::write_all(STDOUT_FILENO, b"endless\n");
-        }
-    }
+    let mut less = [0u8; 255];
+    list_file(
+        b"missing.phs",
+        &mut bank,
+        &mut input,
+        &mut out,
+        STDOUT_FILENO,
+    );
+    list_file(b"sixty.phs", &mut bank, &mut input, &mut out, -1);
+    list_file(b"empty.phs", &mut bank, &mut input, &mut out, -1);
+    list_file(b"sixty.phs", &mut bank, &mut none, &mut out, STDOUT_FILENO);
+    list_file(
+        b"sixty.phs",
+        &mut bank,
+        &mut input,
+        &mut less,
+        STDOUT_FILENO,
+    );
 }
 
 // The file's name, and its listing with three pairs of buffers: the input of 65536 bytes or of 7, the output of 65536 bytes or of one line. The
@@ -89,34 +71,33 @@ fn list_thrice(name: &[u8]) {
     let mut out = io::large_buffer();
     let mut few = [0u8; 7];
     let mut line = [0u8; 256];
-    list_file(name, &mut bank, &mut input, &mut out);
-    list_file(name, &mut bank, &mut few, &mut line);
-    list_file(name, &mut bank, &mut input, &mut line);
+    list_file(name, &mut bank, &mut input, &mut out, STDOUT_FILENO);
+    list_file(name, &mut bank, &mut few, &mut line, STDOUT_FILENO);
+    list_file(name, &mut bank, &mut input, &mut line, STDOUT_FILENO);
 }
 
-// The listing of a file. Where it has no last line, standard error says so.
-fn list_file(name: &[u8], bank: &mut [u8], input: &mut [u8], out: &mut [u8]) {
+// The listing of a file, and how it ends. A file that can't be opened can't be read.
+fn list_file(name: &[u8], bank: &mut [u8], input: &mut [u8], out: &mut [u8], to: i32) {
     let file = os::open_read(name);
-    if file < 0 {
-        os::fail(name);
-        return;
-    }
-    let ending = lister::list(bank, input, out, file, STDOUT_FILENO);
-    say(name, ending);
+    say(lister::list(bank, input, out, file, to));
     libc::close(file);
 }
 
-// Why a listing has no last line.
-fn say(name: &[u8], ending: Ending) {
+// An ending that has no last line, by its word.
+fn say(ending: Ending) {
     match ending {
         Ending::Listed => {}
-        Ending::Unread => os::fail(name),
-        Ending::Unwritten => os::fail(b"standard output"),
+        Ending::Unread => {
+            io::write_all(STDOUT_FILENO, b"unread\n");
+        }
+        Ending::Unwritten => {
+            io::write_all(STDOUT_FILENO, b"unwritten\n");
+        }
         Ending::NoRoom => {
-            io::write_all(STDERR_FILENO, b"listings: no room\n");
+            io::write_all(STDOUT_FILENO, b"no room\n");
         }
         Ending::Endless => {
-            io::write_all(STDERR_FILENO, b"listings: too many reads\n");
+            io::write_all(STDOUT_FILENO, b"endless\n");
         }
     }
 }
