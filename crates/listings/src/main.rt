@@ -35,7 +35,7 @@ fn list_rest() {
     list_thrice(b"long_cut.phs");
 }
 
-// Endings without a listing: no file to read, no descriptor to write a line or the last line to, no room in either buffer.
+// Endings without a listing: no file to read, no descriptor to write a refusal or the last line to, no room in either buffer.
 fn end_otherwise() {
     let mut bank = io::buffer();
     let mut input = io::large_buffer();
@@ -49,7 +49,7 @@ fn end_otherwise() {
         &mut out,
         STDOUT_FILENO,
     );
-    list_file(b"sixty.phs", &mut bank, &mut input, &mut out, -1);
+    list_file(b"mark_wrong.phs", &mut bank, &mut input, &mut out, -1);
     list_file(b"empty.phs", &mut bank, &mut input, &mut out, -1);
     list_file(b"sixty.phs", &mut bank, &mut none, &mut out, STDOUT_FILENO);
     list_file(
