@@ -1,4 +1,4 @@
-"""The class P model of document 01, in the order of its sections, in exact whole numbers."""
+"""The class P model of document 01, with CR 1 of document 02, in the order of 01's sections, in exact whole numbers."""
 
 import math
 import struct
@@ -411,6 +411,8 @@ LIMITS = [
     [(1, 5000, 10000), (1, 5000, 100000)],
 ]
 RAMP = 1
+# CR 1: the reporting intervals from the change of ramp that are left out
+LEFT_OUT_FROM, LEFT_OUT_TO = -2, 2
 LEFT_OUT = "left out"
 
 
@@ -462,7 +464,7 @@ def judge(class_, test, m, device, reference):
         return Refused(11)
     if reference.re == 0 and reference.im == 0:
         return Refused(9)
-    if test == RAMP and m in (0, 1, 2):
+    if test == RAMP and LEFT_OUT_FROM <= m <= LEFT_OUT_TO:
         return LEFT_OUT
     percent, fe_limit, rfe_limit = LIMITS[class_][test]
     return Verdict(within_tve(device, reference, percent),

@@ -1,4 +1,4 @@
-"""The scenes of a replay script that reach every edge of document 01."""
+"""The scenes of a replay script that reach every edge of document 01 and of CR 1."""
 
 import itertools
 import math
@@ -15,7 +15,7 @@ LOW_32, HIGH_32 = -2147483648, 2147483647
 
 
 # ---------------------------------------------------------------------------
-# The figures of document 01
+# The figures of document 01, and of CR 1
 
 def impulse_runs(phase, at):
     """Three runs of 61 that are 1 in one phase at one index, else 0."""
@@ -33,7 +33,7 @@ def figures_of_the_document(maker):
             maker.judge(class_, 0, 3, (1, 0, 5, 0), (1, 0, reference, 0))
         for device in (1, 2):
             maker.judge(class_, 0, 3, (1, 0, 0, device), (1, 0, 0, 0))
-        for m in (2, 3):
+        for m in (-3, -2, 2, 3):
             maker.judge(class_, 1, m)
     for centre in (14, 15, 16):
         maker.run(50, centre, [any_run(maker.rng, 31) for _ in range(3)])
@@ -399,15 +399,20 @@ def windows_run(maker):
         maker.run(window.nominal, before + 15, list(zip(*samples)))
 
 
+# m about both edges of what a ramp leaves out, others whose last byte or two are the same, and the extremes
+INTERVALS = sorted({near + far for near in range(-4, 5) for far in (0, -256, 256, -65536, 65536)}
+                   | {LOW_32 + n for n in range(4)} | {HIGH_32 - n for n in range(4)})
+
+
 def orders_of_judging(maker):
     """Every class and every test; class, test, reference and m at once, each refused and not; the extremes of m."""
     for number in range(256):
         maker.judge(number, 0, 3)
         maker.judge(0, number, 3)
-    for class_, test, re, im, m in itertools.product((0, 1, 2, 255), (0, 1, 2, 255), (0, 1), (0, -1), (1, 3)):
+    for class_, test, re, im, m in itertools.product((0, 1, 2, 255), (0, 1, 2, 255), (0, 1), (0, -1), (-3, -2, 1, 3)):
         maker.judge(class_, test, m, reference=(re, im, 0, 0))
     for class_, test in itertools.product((0, 1), repeat=2):
-        for m in (-3, -2, -1, 0, 1, 2, 3, 4, 255, 256, 258, 65536, 65538, LOW_32, LOW_32 + 2, HIGH_32):
+        for m in INTERVALS:
             maker.judge(class_, test, m)
 
 
@@ -438,8 +443,8 @@ def verdict_edges(maker):
             for sign, further in itertools.product((-1, 1), (0, 1)):
                 fe = 1000 * device + sign * (fe_limit + further)
                 rfe = 10000 * device + sign * (rfe_limit + further)
-                maker.judge(class_, test, -1, (1, 0, device, 0), (1, 0, fe, 0))
-                maker.judge(class_, test, -1, (1, 0, 0, device), (1, 0, 0, rfe))
+                maker.judge(class_, test, -3, (1, 0, device, 0), (1, 0, fe, 0))
+                maker.judge(class_, test, -3, (1, 0, 0, device), (1, 0, 0, rfe))
 
 
 def verdict_extremes(maker):

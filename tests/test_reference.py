@@ -1,4 +1,4 @@
-"""The figures of document 01 on both sides of each edge, held against the model."""
+"""The figures of document 01 and of CR 1 on both sides of each edge, held against the model."""
 
 import random
 import struct
@@ -73,11 +73,16 @@ def steady_rocof_errors():
 
 
 def left_out_intervals():
-    """m 2 left out, m 3 judged."""
-    equal = (1, 1, 0, 0)
+    """CR 1: in ramp tests m from -2 to 2 left out, -3, 3 and the extremes judged; in steady tests no effect."""
+    equal = Device(1, 1, 0, 0), Reference(1, 1, 0, 0)
+    judged = Verdict(True, True, True)
     for class_ in CLASSES:
-        yield judge(class_, RAMP, 2, Device(*equal), Reference(*equal)), LEFT_OUT
-        yield judge(class_, RAMP, 3, Device(*equal), Reference(*equal)), Verdict(True, True, True)
+        for m in (-2, -1, 0, 1, 2):
+            yield judge(class_, RAMP, m, *equal), LEFT_OUT
+            yield judge(class_, STEADY, m, *equal), judged
+        for m in (-2147483648, -3, 3, 2147483647):
+            yield judge(class_, RAMP, m, *equal), judged
+            yield judge(class_, STEADY, m, *equal), judged
 
 
 def last_second():

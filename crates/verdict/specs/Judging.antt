@@ -4,7 +4,7 @@ use mathlib.Core.Bool.{Bool, cond, _&&_}
 use mathlib.Core.List.{List, [], _∷_}
 use Prim.Native.Nat.{ℕ, _*_}
 use lib.Dec.{ltb, leb, eqb}
-use lib.IntN.{ℤ, pos, natAbs}
+use lib.IntN.{ℤ, pos, negℤ, natAbs}
 use lib.Signed.{leZ}
 use Rattle.verdict.specs.Errors.{errorsOf}
 use Rattle.verdict.specs.Limits.{limitsFor}
@@ -30,9 +30,9 @@ verdictOn errors limits =
       rfe = leb (errors .rocof) (limits .rfe);
     }
 
--- in ramp tests m of 0, 1 or 2 is left out; in steady tests m has no effect
+-- document 02, CR 1: in ramp tests m from -2 to 2 is left out, and -3 and 3 are judged; document 01: in steady tests m has no effect
 abbrev pub leftOut : ℕ → ℤ → Bool
-leftOut test m = eqb test 1 && leZ (pos 0) m && leZ m (pos 2)
+leftOut test m = eqb test 1 && leZ (negℤ (pos 2)) m && leZ m (pos 2)
 
 -- 10: class over 1
 abbrev pub noClass : ℕ → Refusal

@@ -48,11 +48,11 @@ fn no_reference(reference: Reference) -> bool
     (reference.re == 0) & (reference.im == 0)
 }
 
-// In ramp tests m of 0, 1 or 2; in steady tests m has no effect.
+// In ramp tests m from -2 to 2 (CR 1); in steady tests m has no effect.
 fn left_out(test: u8, m: i32) -> bool
     ensures { λ r. ⌜ r ≡ leftOut test m ⌝ }
 {
-    (test == 1) & (0 <= m) & (m <= 2)
+    (test == 1) & (-2 <= m) & (m <= 2)
 }
 
 // The judging of one device report: refusals 10, 11, 9, then "left out", then the three verdicts.
