@@ -405,7 +405,7 @@ INTERVALS = sorted({near + far for near in range(-4, 5) for far in (0, -256, 256
 
 
 def orders_of_judging(maker):
-    """Every class and every test; class, test, reference and m at once, each refused and not; the extremes of m."""
+    """Every class and every test; class, test, reference and m at once, refused and not; m about its edges."""
     for number in range(256):
         maker.judge(number, 0, 3)
         maker.judge(0, number, 3)

@@ -1,4 +1,4 @@
--- Document 01, "The verdict": each error against its limit, what is left out, and the refusals of judging in their order.
+-- Document 01, "The verdict", with CR 1: each error against its limit, what is left out, and the refusals of judging in their order.
 use mathlib.Core.Path.{_≡_}
 use mathlib.Core.Bool.{Bool, cond, _&&_}
 use mathlib.Core.List.{List, [], _∷_}
@@ -30,7 +30,7 @@ verdictOn errors limits =
       rfe = leb (errors .rocof) (limits .rfe);
     }
 
--- document 02, CR 1: in ramp tests m from -2 to 2 is left out, and -3 and 3 are judged; document 01: in steady tests m has no effect
+-- in ramp tests m from -2 to 2 is left out, and -3 and 3 are judged (CR 1); in steady tests m has no effect
 abbrev pub leftOut : ℕ → ℤ → Bool
 leftOut test m = eqb test 1 && leZ (negℤ (pos 2)) m && leZ m (pos 2)
 
