@@ -411,8 +411,6 @@ LIMITS = [
     [(1, 5000, 10000), (1, 5000, 100000)],
 ]
 RAMP = 1
-# CR 1: the reporting intervals from the change of ramp that are left out
-LEFT_OUT_FROM, LEFT_OUT_TO = -2, 2
 LEFT_OUT = "left out"
 
 
@@ -457,14 +455,14 @@ def within_rfe(device, reference, limit):
 
 
 def judge(class_, test, m, device, reference):
-    """The judging of one device report: refused 10, 11, 9, then "left out"."""
+    """The judging of one device report: refused 10, 11, 9, then "left out": in ramp tests m from -2 to 2 (CR 1)."""
     if class_ > 1:
         return Refused(10)
     if test > 1:
         return Refused(11)
     if reference.re == 0 and reference.im == 0:
         return Refused(9)
-    if test == RAMP and LEFT_OUT_FROM <= m <= LEFT_OUT_TO:
+    if test == RAMP and -2 <= m <= 2:
         return LEFT_OUT
     percent, fe_limit, rfe_limit = LIMITS[class_][test]
     return Verdict(within_tve(device, reference, percent),
