@@ -16,7 +16,8 @@ import tempfile
 
 from commands import SHOWN, dispatch
 from inputs import any_sample, any_wave, opening_pairs, sample_at, steady_wave
-from reference import HEADER_BYTES, LAST_SOC, SAMPLE_BYTES, SERVED, cos, kept_rate, listing, sampling
+from reference import (
+    HEADER_BYTES, LAST_SOC, SAMPLE_BYTES, SERVED, VERSIONS, cos, kept_rate, listing, passed_rate, sampling)
 
 PIECES = (None, 1, 4095, 65537)
 
@@ -53,25 +54,26 @@ def wrong_headers():
     """Headers with one fault, and with two or more of which the first in order is refused."""
     for mark in (b"phs", b"QHS", b"PIS", b"PHT", b"SHP", b"\0\0\0"):
         yield header(60, 60, mark=mark)
-    for version in (0, 2, 256, 257, 65535):
-        yield header(60, 60, version=version)
-    for nominal in (0, 49, 51, 59, 61, 255):
-        yield header(nominal, 10)
-    for nominal, rates in SERVED.items():
-        beside = {rate + change for rate in (0,) + rates for change in (-1, 1)} & set(range(256))
-        of_any = {rate for served in SERVED.values() for rate in served}
-        for rate in sorted((beside | of_any | {255}) - set(rates) - {0}):
-            yield header(nominal, rate)
-    yield header(51, 11, mark=b"PHT", version=2)
-    yield header(51, 11, version=2)
-    yield header(51, 11)
+    for version in (0, 3, 4, 255, 256, 257, 258, 512, 513, 65535):
+        yield header(60, 0, version=version)
+    for version in VERSIONS:
+        for nominal in (0, 49, 51, 59, 61, 255):
+            yield header(nominal, 0, version=version)
+        for nominal, rates in SERVED.items():
+            beside = {rate + change for rate in (0,) + rates for change in (-1, 1)} & set(range(256))
+            of_any = {rate for served in SERVED.values() for rate in served}
+            for rate in sorted((beside | of_any | {255}) - set(rates) - {0}):
+                yield header(nominal, rate, version=version)
+        yield header(51, 11, version=version)
+    yield header(51, 11, mark=b"PHT", version=3)
+    yield header(51, 11, version=3)
 
 
 def cut_headers():
     """Fewer than 11 bytes, of a sound header and of a wrong one."""
     for length in range(11):
         yield header(60, 60)[:length]
-    yield header(51, 11, mark=b"PHT", version=2)[:10]
+    yield header(51, 11, mark=b"PHT", version=3)[:10]
 
 
 def cut_samples():
@@ -91,9 +93,10 @@ def last_seconds():
 
 
 def bare_headers():
-    """A header and no sample, at every nominal and rate that it may give."""
-    for nominal, rate in opening_pairs():
-        yield header(nominal, rate)
+    """A header and no sample, of each version, at every nominal and rate that it may give."""
+    for version in VERSIONS:
+        for nominal, rate in opening_pairs():
+            yield header(nominal, rate, version=version)
 
 
 def edges():
@@ -105,33 +108,39 @@ def edges():
 # ---------------------------------------------------------------------------
 # Random files
 
+def any_opening(rng):
+    """A version, and a nominal and rate that it may give."""
+    return rng.choice(VERSIONS), *rng.choice(opening_pairs())
+
+
 def sound(rng):
     """A sound file of up to 300 samples."""
-    nominal, rate = rng.choice(opening_pairs())
-    return header(nominal, rate, any_soc(rng)) + any_body(rng, nominal, rng.randint(0, 300))
+    version, nominal, rate = any_opening(rng)
+    return header(nominal, rate, any_soc(rng), version=version) + any_body(rng, nominal, rng.randint(0, 300))
 
 
 def about_the_first_report(rng):
     """A sound file that ends about the first sample with which a report comes."""
-    nominal, rate = rng.choice(opening_pairs())
-    first = max(30, sampling(nominal) // kept_rate(rate) + 15)
-    return header(nominal, rate, any_soc(rng)) + any_body(rng, nominal, first + rng.randint(-1, 2))
+    version, nominal, rate = any_opening(rng)
+    first = max(30, sampling(nominal) // kept_rate(nominal, passed_rate(version, rate)) + 15)
+    samples = any_body(rng, nominal, first + rng.randint(-1, 2))
+    return header(nominal, rate, any_soc(rng), version=version) + samples
 
 
 def over_a_second(rng):
     """A sound file that passes the turn of the second."""
-    nominal, rate = rng.choice(opening_pairs())
-    soc = rng.choice((0, 1000, LAST_SOC - 1))
-    return header(nominal, rate, soc) + any_body(rng, nominal, sampling(nominal) + rng.randint(-2, 100))
+    version, nominal, rate = any_opening(rng)
+    samples = any_body(rng, nominal, sampling(nominal) + rng.randint(-2, 100))
+    return header(nominal, rate, rng.choice((0, 1000, LAST_SOC - 1)), version=version) + samples
 
 
 def to_the_last_second(rng):
     """A file that ends about the last sample of the last second."""
-    nominal, rate = rng.choice(opening_pairs())
+    version, nominal, rate = any_opening(rng)
     seconds = rng.choice((1, 1, 2))
     count = seconds * sampling(nominal) + rng.choice((-2, -1, 0, 1, 30))
     rest = rng.randbytes(rng.choice((0, 0, 1, 5)))
-    return header(nominal, rate, LAST_SOC + 1 - seconds) + any_body(rng, nominal, count) + rest
+    return header(nominal, rate, LAST_SOC + 1 - seconds, version=version) + any_body(rng, nominal, count) + rest
 
 
 def cut_in_a_sample(rng):
@@ -154,8 +163,8 @@ def cut_anywhere(rng):
 
 def over_many_pieces(rng):
     """A sound file longer than 65537 bytes."""
-    nominal, rate = rng.choice(opening_pairs())
-    return header(nominal, rate) + any_body(rng, nominal, rng.randint(10930, 11500))
+    version, nominal, rate = any_opening(rng)
+    return header(nominal, rate, version=version) + any_body(rng, nominal, rng.randint(10930, 11500))
 
 
 KINDS = (sound, about_the_first_report, over_a_second, to_the_last_second, cut_in_a_sample,
@@ -187,10 +196,10 @@ def steady(nominal, rate, seconds):
     return off_nominal(nominal, rate, seconds, 0)
 
 
-def off_nominal(nominal, rate, seconds, deviation):
+def off_nominal(nominal, rate, seconds, deviation, version=1):
     """A frequency beside the nominal throughout."""
-    count = int(seconds * sampling(nominal))
-    return header(nominal, rate) + body(steady_wave(nominal, nominal + deviation, AMPLITUDE, count))
+    samples = steady_wave(nominal, nominal + deviation, AMPLITUDE, int(seconds * sampling(nominal)))
+    return header(nominal, rate, version=version) + body(samples)
 
 
 def ramp(nominal, rate, seconds, slope):
@@ -221,7 +230,9 @@ def example_files():
         "off_nominal": off_nominal(60, 30, 0.5, -0.75),
         "ramp": ramp(50, 25, 1, 1.0),
         "step": step(60, 60, 0.5, 1.1, 1 / 36),
-        "cut_short": steady(60, 0, 0.4)[:-2],
+        "cut_short": steady(60, 10, 0.4)[:-2],
+        "rate_0_version_1": off_nominal(50, 0, 0.3, 0.5, version=1),
+        "rate_0_version_2": off_nominal(50, 0, 0.3, 0.5, version=2),
     }
 
 
@@ -254,23 +265,29 @@ def stored_files():
     """The files that `listings` lists, by name, in its order."""
     samples = body(steady_wave(60, 60.5, AMPLITUDE, 200))
     return {
-        # refused 14, 14, 12, 13, 6, 7; whole headers have samples after them
+        # refused 14, 14, 12, 13, 13, 6, 7; whole headers have samples after them
         "empty": b"",
         "header_cut": header(60, 60)[:10],
         "mark_wrong": header(60, 60, mark=b"PHT") + samples,
         "version_wrong": header(60, 60, version=256) + samples,
+        "version_3": header(60, 0, version=3) + samples,
         "nominal_wrong": header(51, 10) + samples,
         "rate_wrong": header(60, 50) + samples,
         # sound; the waves pass the turn of a second
         "header_only": header(50, 10),
         "fifty": off_nominal(50, 25, 1.2, 0.37),
-        "sixty": off_nominal(60, 0, 1.2, -1.25),
+        "sixty": off_nominal(60, 10, 1.2, -1.25),
+        # rate 0 at both nominals in both versions
+        "fifty_rate_0_version_1": off_nominal(50, 0, 0.4, 0.25, version=1),
+        "sixty_rate_0_version_1": off_nominal(60, 0, 0.4, 0.25, version=1),
+        "fifty_rate_0_version_2": off_nominal(50, 0, 0.4, 0.25, version=2),
+        "sixty_rate_0_version_2": off_nominal(60, 0, 0.4, 0.25, version=2),
         # refused 15, and 8 with more than 65536 bytes after it
         "sample_cut": ramp(60, 30, 0.4, 2.0)[:-3],
         "last_second": header(60, 60, LAST_SOC) + body(steady_wave(60, 59.5, AMPLITUDE, 12000)),
-        # over several reads, sound and refused 15
+        # over several reads, sound, and of version 2 refused 15
         "long": gone_on_with(2012, header(50, 50), 50, 400000),
-        "long_cut": gone_on_with(2013, header(60, 20), 60, 200000)[:-1],
+        "long_cut": gone_on_with(2013, header(60, 20, version=2), 60, 200000)[:-1],
     }
 
 
@@ -372,7 +389,7 @@ def compared_in_pieces(program, listed):
     return 0 if differing == 0 else 1
 
 
-def compare(program, seed=1, count=200):
+def compare(program, seed=1, count=320):
     """Feeds so many files to the program; 0 if every listing agrees, else 1."""
     return compared_in_pieces(program, with_listings(numbered_files(seed, count)))
 

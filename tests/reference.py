@@ -1,4 +1,5 @@
-"""The class P model of document 01, with CR 1 of document 02, in the order of 01's sections, in exact whole numbers."""
+"""The class P model of document 01, with CR 1 and CR 2 of document 02, in the order of 01's sections, in exact whole
+numbers."""
 
 import math
 import struct
@@ -16,9 +17,9 @@ def sampling(nominal):
     return {50: 750, 60: 900}[nominal]
 
 
-def kept_rate(rate):
-    """Rate 0 stands for 10, and 10 is what is kept."""
-    return 10 if rate == 0 else rate
+def kept_rate(nominal, rate):
+    """CR 2: at opening, rate 0 stands for the nominal frequency."""
+    return nominal if rate == 0 else rate
 
 
 def frame_spacing(nominal, rate):
@@ -338,7 +339,7 @@ def open_feed(bank, slot, nominal, rate, soc):
     refusal = opening_refusal(nominal, rate)
     if refusal:
         return refusal
-    feed = Feed(nominal, kept_rate(rate), held=0, soc=soc, index=0, place=0,
+    feed = Feed(nominal, kept_rate(nominal, rate), held=0, soc=soc, index=0, place=0,
                 places=((0, 0, 0),) * PLACES)
     put_slot(bank, slot, slot_of(feed))
     return DONE
@@ -475,6 +476,7 @@ def judge(class_, test, m, device, reference):
 
 HEADER_BYTES = 11
 SAMPLE_BYTES = 6
+VERSIONS = (1, 2)
 
 
 class Header(NamedTuple):
@@ -486,16 +488,21 @@ class Header(NamedTuple):
 
 
 def read_header(data):
-    """The header of a file: refused 14, 12, 13, 6, 7."""
+    """The header of a file: refused 14, 12, 13 (CR 2: versions other than 1 and 2), 6, 7."""
     if len(data) < HEADER_BYTES:
         return Refused(14)
     mark, *fields = struct.unpack(">3sHBBI", data[:HEADER_BYTES])
     header = Header(*fields)
     if mark != b"PHS":
         return Refused(12)
-    if header.version != 1:
+    if header.version not in VERSIONS:
         return Refused(13)
     return opening_refusal(header.nominal, header.rate) or header
+
+
+def passed_rate(version, rate):
+    """CR 2: of a version 1 file with rate 0 the reader passes 10 itself; else what the file gives."""
+    return 10 if version == 1 and rate == 0 else rate
 
 
 def tag_and_whole_numbers(report):
@@ -510,10 +517,10 @@ def listing_lines(data):
     header = read_header(data)
     if isinstance(header, Refused):
         return ["refused %d" % header.number]
-    lines = ["PHS %d %d %d" % (header.version, header.nominal, kept_rate(header.rate))]
     bank = bytearray(BANK_BYTES)
     clear(bank)
-    open_feed(bank, 0, header.nominal, header.rate, header.soc)
+    open_feed(bank, 0, header.nominal, passed_rate(header.version, header.rate), header.soc)
+    lines = ["PHS %d %d %d" % (header.version, header.nominal, feed_of(slot_bytes(bank, 0)).rate)]
     reports = 0
     samples = 0
     for at in range(HEADER_BYTES, len(data), SAMPLE_BYTES):

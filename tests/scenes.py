@@ -1,4 +1,4 @@
-"""The scenes of a replay script that reach every edge of document 01 and of CR 1."""
+"""The scenes of a replay script that reach every edge of document 01, of CR 1 and of CR 2."""
 
 import itertools
 import math
@@ -107,7 +107,7 @@ def openings(maker):
                 maker.show(5)
             maker.close(5)
     for soc in (0, 1, 255, 256, 65536, LAST_SOC - 1, LAST_SOC):
-        maker.open(6, 50, 0, soc)
+        maker.open(6, 50, 10, soc)
         maker.show(6)
         maker.close(6)
 
@@ -247,7 +247,7 @@ def try_slot(maker, slot, neighbour, content):
     maker.push(slot)
     maker.push(neighbour)
     maker.show(slot)
-    maker.open(slot, 50, 0, 77)
+    maker.open(slot, 50, 10, 77)
     maker.open(slot, 51, 11)
     maker.open(neighbour)
     if maker.rng.random() < 0.03:
@@ -297,7 +297,7 @@ def reports(maker):
     """Both nominals and every served rate, rate 0 among them, from the opening on."""
     for slot, (nominal, rate) in enumerate(opening_pairs()):
         maker.open(slot, nominal, rate, maker.rng.choice((0, 1000, maker.rng.randint(0, LAST_SOC))))
-        count = 2 * frame_spacing(nominal, kept_rate(rate)) + 35
+        count = 2 * frame_spacing(nominal, kept_rate(nominal, rate)) + 35
         for sample in any_wave(maker.rng, nominal, count):
             maker.push(slot, sample)
         maker.show(slot)

@@ -1,4 +1,4 @@
-"""The figures of document 01 and of CR 1 on both sides of each edge, held against the model."""
+"""The figures of document 01, of CR 1 and of CR 2 on both sides of each edge, held against the model."""
 
 import random
 import struct
@@ -112,6 +112,32 @@ def whole_listing():
     yield listing(data), b"PHS 1 60 60\n1000 1 90598592160 0 0 0 0\nreports 1 samples 31\n"
 
 
+def rate_0_at_opening():
+    """CR 2: rate 0 is kept as the nominal frequency, every other rate as it is; a kept 0 is damage."""
+    for nominal, rates in SERVED.items():
+        for rate in (0,) + rates:
+            bank = bytearray(BANK_BYTES)
+            yield open_feed(bank, 9, nominal, rate, 1000), DONE
+            yield feed_of(slot_bytes(bank, 9)).rate, rate or nominal
+        bank[9 * 256 + 2] = 0
+        yield push(bank, 9, 0, 0, 0), Refused(3)
+
+
+def rate_0_in_headers():
+    """CR 2: in version 1 rate 0 means 10, in version 2 the nominal frequency; versions other than these are refused 13."""
+    def listed(version, nominal, rate):
+        return listing(struct.pack(">3sHBBI", b"PHS", version, nominal, rate, 1000))
+
+    for version, nominal, rate, kept in ((1, 50, 0, 10), (1, 60, 0, 10), (2, 50, 0, 50), (2, 60, 0, 60),
+                                         (1, 50, 50, 50), (1, 60, 60, 60), (2, 50, 10, 10), (2, 60, 10, 10)):
+        yield listed(version, nominal, rate), b"PHS %d %d %d\nreports 0 samples 0\n" % (version, nominal, kept)
+    for version in (0, 3, 256, 512, 65535):
+        yield listed(version, 60, 0), b"refused 13\n"
+    for version in (1, 2):
+        yield listed(version, 51, 0), b"refused 6\n"
+        yield listed(version, 60, 50), b"refused 7\n"
+
+
 def bank_and_whole_run():
     """The reports of a feed are the whole run's at the multiples of D, with the centre's tag."""
     rng = random.Random(1)
@@ -139,7 +165,7 @@ def bank_and_whole_run():
 
 CHECKS = (angles, single_samples, wrapped_differences, total_vector_errors, steady_frequency_errors,
           steady_rocof_errors, left_out_intervals, last_second, runs_of_31, whole_listing,
-          bank_and_whole_run)
+          rate_0_at_opening, rate_0_in_headers, bank_and_whole_run)
 
 
 def main():

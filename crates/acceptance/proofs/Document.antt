@@ -12,7 +12,7 @@ use Rattle.model.specs.Report.{secondDifference, differences, joined, phaseAt, 
 use Rattle.feed.specs.Answers.{tagged}
 use Rattle.feed.specs.Places.{sampleOf, placeOf}
 use Rattle.feed.specs.History.{opening, grown, isDue, reportAt, answered, told}
-use Rattle.header.specs.Header.{isMark, versionIn, socIn, headed}
+use Rattle.header.specs.Header.{isMark, versionIn, socIn, meantRate, headed}
 use Rattle.phs.specs.Listing.{answers, printed, listing}
 use Rattle.phs.specs.Lines.{headLine, reportLine, lastLine}
 use Rattle.acceptance.specs.Document.{file, ListingHolds}
@@ -22,7 +22,7 @@ abbrev report : List ℕ
 report = reportLine 1000 1 (pos 90598592160) (pos 0) (pos 0) (pos 0) 0
 
 computed : listing file ≡ headLine 1 60 60 ++ ((report ++ []) ++ lastLine 1 31)
-unfolding sum signedIn bits16 servedRate keptRate weight offset phaseSum term weighted positive arctan scaled turned step steps noPhase phaseAngle phaseOf secondDifference differences joined phaseAt figuresAt tagged sampleOf placeOf opening grown isDue reportAt answered told isMark versionIn socIn headed answers printed listing
+unfolding sum signedIn bits16 servedRate keptRate weight offset phaseSum term weighted positive arctan scaled turned step steps noPhase phaseAngle phaseOf secondDifference differences joined phaseAt figuresAt tagged sampleOf placeOf opening grown isDue reportAt answered told isMark versionIn socIn meantRate headed answers printed listing
 computed = refl
 
 pub listing-holds : ListingHolds

@@ -12,7 +12,7 @@ use Rattle.sampling.specs.Tags.{servedNominal, servedRate}
 use Rattle.feed.specs.Answers.{done}
 use Rattle.feed.specs.History.{History, opening, grown, answered, told}
 use Rattle.feed.specs.Ring.{opened, stored, historyOf, endOfTimeOf}
-use Rattle.feed.proofs.Faultless.{kept-served}
+use Rattle.sampling.proofs.Rates.{kept-served}
 use Rattle.feed.proofs.Stored.{Fits16}
 use Rattle.feed.proofs.Alike.{told-last, told-on}
 use Rattle.feed.proofs.Meeting.{Keeps, held-kept, opening-kept, last-same, answer-kept, stored-kept}

@@ -1,13 +1,12 @@
 -- A head is not faulty where its facts hold: so of an opening, and so after a push of one that is not. Assumes nothing.
 use mathlib.Core.Path.{_≡_, refl, sym, _∙_}
-use mathlib.Core.Bool.{Bool, true, false, cond, not, _&&_, _||_, or-false}
-use mathlib.Core.List.{[], _∷_}
+use mathlib.Core.Bool.{Bool, true, false, cond, not, _&&_, _||_}
 use Prim.Native.Nat.{ℕ, _+_, _≤_, _<_}
 use native.Mathlib.Omega.{arith}
 use lib.Dec.{ltb, eqb}
 use borrow.Author.Tests.{ltb-true, ltb-false, lt-ltb, le-ltb, eqb-true, eqb-false, eq-eqb, ne-eqb}
 use Rattle.feed.specs.declared.Head.{Head}
-use Rattle.sampling.specs.Tags.{servedNominal, among, servedRate, keptRate}
+use Rattle.sampling.specs.Tags.{servedNominal, servedRate, keptRate}
 use Rattle.sampling.specs.Sampling.{samplingOf}
 use Rattle.feed.specs.History.{lastIndex}
 use Rattle.feed.specs.Ring.{unserved, uneven, early, faulty, opened, nextHead}
@@ -46,24 +45,6 @@ faultless h e s =
     (late h s)
 
 -- ---- opening
-
--- 10 is served at 50 and at 60 Hz, so the kept rate is served where the rate is, or is 0
-ten-served : (nominal : ℕ) → servedNominal nominal ≡ true → servedRate nominal 10 ≡ true
-unfolding servedRate
-ten-served nominal e = go (eqb nominal 50) (eqb nominal 60) e
-  where
-    go : (a b : Bool) → (a || b) ≡ true → among 10 (cond a (10 ∷ 25 ∷ 50 ∷ []) (cond b (10 ∷ 12 ∷ 15 ∷ 20 ∷ 30 ∷ 60 ∷ []) [])) ≡ true
-    go true b t = refl
-    go false true t = refl
-    go false false t = t
-
-pub kept-served : (nominal rate : ℕ) → servedNominal nominal ≡ true → (servedRate nominal rate || eqb rate 0) ≡ true → servedRate nominal (keptRate nominal rate) ≡ true
-unfolding keptRate
-kept-served nominal rate a b = go (eqb rate 0) b
-  where
-    go : (z : Bool) → (servedRate nominal rate || z) ≡ true → servedRate nominal (cond z 10 rate) ≡ true
-    go true t = ten-served nominal a
-    go false t = sym (or-false (servedRate nominal rate)) ∙ t
 
 pub opened-sound : (nominal rate soc : ℕ) → servedNominal nominal ≡ true → servedRate nominal (keptRate nominal rate) ≡ true
     → faulty ((opened nominal rate soc) .head) ≡ false

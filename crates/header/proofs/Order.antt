@@ -5,9 +5,9 @@ use mathlib.Core.List.{List}
 use Prim.Native.Nat.{ℕ, _≤_, _<_}
 use lib.Dec.{eqb}
 use lib.ListN.{length}
-use borrow.Author.Tests.{lt-ltb, le-ltb, eq-eqb, ne-eqb}
-use Rattle.sampling.specs.Tags.{servedNominal, servedRate, keptRate}
-use Rattle.header.specs.Header.{refused, opens, headed, isMark, versionIn, nominalIn, rateIn, socIn}
+use borrow.Author.Tests.{lt-ltb, le-ltb}
+use Rattle.sampling.specs.Tags.{servedNominal, servedRate}
+use Rattle.header.specs.Header.{refused, opens, headed, isMark, versionIn, servedVersion, nominalIn, rateIn, socIn, meantRate}
 
 module _ (h : List ℕ) where
   pub too-short : length h < 11 → refused 14 ≡ headed h
@@ -20,21 +20,21 @@ module _ (h : List ℕ) where
     no-mark m = rw (le-ltb (length h) 11 long, m)
 
     module _ (marked : isMark h ≡ true) where
-      pub no-version : (versionIn h ≡ 1 → ⊥) → refused 13 ≡ headed h
+      pub no-version : servedVersion (versionIn h) ≡ false → refused 13 ≡ headed h
       unfolding headed
-      no-version v = rw (le-ltb (length h) 11 long, marked, ne-eqb (versionIn h) 1 v)
+      no-version v = rw (le-ltb (length h) 11 long, marked, v)
 
-      module _ (first : versionIn h ≡ 1) where
+      module _ (versioned : servedVersion (versionIn h) ≡ true) where
         pub no-nominal : servedNominal (nominalIn h) ≡ false → refused 6 ≡ headed h
         unfolding headed
-        no-nominal n = rw (le-ltb (length h) 11 long, marked, eq-eqb (versionIn h) 1 first, n)
+        no-nominal n = rw (le-ltb (length h) 11 long, marked, versioned, n)
 
         module _ (served : servedNominal (nominalIn h) ≡ true) where
           pub no-rate : (servedRate (nominalIn h) (rateIn h) || eqb (rateIn h) 0) ≡ false → refused 7 ≡ headed h
           unfolding headed
-          no-rate r = rw (le-ltb (length h) 11 long, marked, eq-eqb (versionIn h) 1 first, served, r)
+          no-rate r = rw (le-ltb (length h) 11 long, marked, versioned, served, r)
 
           pub all-passed : (servedRate (nominalIn h) (rateIn h) || eqb (rateIn h) 0) ≡ true
-              → opens (versionIn h) (nominalIn h) (keptRate (nominalIn h) (rateIn h)) (socIn h) ≡ headed h
+              → opens (versionIn h) (nominalIn h) (meantRate (versionIn h) (nominalIn h) (rateIn h)) (socIn h) ≡ headed h
           unfolding headed
-          all-passed r = rw (le-ltb (length h) 11 long, marked, eq-eqb (versionIn h) 1 first, served, r)
+          all-passed r = rw (le-ltb (length h) 11 long, marked, versioned, served, r)

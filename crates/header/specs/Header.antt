@@ -1,6 +1,6 @@
--- Document 01, "PHS files and the listing": the header of a file, and its refusals in their order.
+-- Document 01, "PHS files and the listing", with CR 2: the header of a file, and its refusals in their order.
 use mathlib.Core.Path.{_≡_}
-use mathlib.Core.Bool.{Bool, not, _&&_}
+use mathlib.Core.Bool.{Bool, cond, not, _&&_, _||_}
 use mathlib.Core.List.{List, [], _∷_}
 use Prim.Native.Nat.{ℕ}
 use lib.Dec.{eqb, ltb}
@@ -11,7 +11,7 @@ use Rattle.bits.specs.Bits.{be16, be32}
 use Rattle.header.specs.declared.Header.{Header}
 use Rattle.header.specs.declared.Header.the-variants.{Refused, Opens}
 
--- ---- Header, 11 bytes: "PHS", version (16 bits, 1), nominal, rate, SOC (32 bits), big-endian
+-- ---- Header, 11 bytes: "PHS", version (16 bits, 1 or 2), nominal, rate, SOC (32 bits), big-endian
 
 -- bytes 0 to 2 are "PHS"
 unfoldable pub isMark : List ℕ → Bool
@@ -43,9 +43,13 @@ tooShort h = record { number = 14; due = ltb (length h) 11 }
 abbrev pub noMark : List ℕ → Refusal
 noMark h = record { number = 12; due = not (isMark h) }
 
--- 13: version not 1
+-- CR 2: versions 1 and 2 are read
+abbrev pub servedVersion : ℕ → Bool
+servedVersion version = eqb version 1 || eqb version 2
+
+-- CR 2: 13 is for versions other than 1 and 2
 abbrev pub noVersion : List ℕ → Refusal
-noVersion h = record { number = 13; due = not (eqb (versionIn h) 1) }
+noVersion h = record { number = 13; due = not (servedVersion (versionIn h)) }
 
 -- header 14, 12, 13, 6, 7
 abbrev pub headerRefusals : List ℕ → List Refusal
@@ -63,9 +67,14 @@ abbrev pub said : Header → Said
 said (Refused number) = refused number
 said (Opens version nominal rate soc) = opens version nominal rate soc
 
+-- CR 2: version 1 files with rate 0 were recorded under the old meaning, so the file reader passes 10 itself; version 2 files take the new
+-- meaning, which is that of an opening
+unfoldable pub meantRate : (version nominal rate : ℕ) → ℕ
+meantRate version nominal rate = cond (eqb version 1 && eqb rate 0) 10 (keptRate nominal rate)
+
 -- a header that is not refused opens a feed; the rate is the one kept
 unfoldable pub headed : List ℕ → Said
-headed h = unlessRefused (headerRefusals h) refused (opens (versionIn h) (nominalIn h) (keptRate (nominalIn h) (rateIn h)) (socIn h))
+headed h = unlessRefused (headerRefusals h) refused (opens (versionIn h) (nominalIn h) (meantRate (versionIn h) (nominalIn h) (rateIn h)) (socIn h))
 
 -- what `read_header` promises
 abbrev pub Heading : List ℕ → Header → Type 0

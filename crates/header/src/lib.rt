@@ -1,11 +1,11 @@
-// Document 01, "PHS files and the listing": the eleven bytes of a header.
+// Document 01, "PHS files and the listing", with CR 2: the eleven bytes of a header.
 use bits::be16;
 use bits::be32;
 ghost use mathlib.Core.Path.{_≡_};
 ghost use Prim.Native.Nat.{_<_};
 ghost use lib.ListN.{length};
 ghost use Rattle.bits.specs.Bits.{be16};
-ghost use Rattle.header.specs.Header.{Heading, isMark};
+ghost use Rattle.header.specs.Header.{Heading, isMark, meantRate};
 
 // What a header says: refused, or the version and what it opens a feed with, the rate being the one kept.
 pub enum Header {
@@ -29,7 +29,7 @@ pub fn read_header(h: &[u8]) -> Header
         return Header::Refused(12);
     }
     let version = be16(h[3], h[4]);
-    if version != 1 {
+    if !((version == 1) | (version == 2)) {
         return Header::Refused(13);
     }
     let nominal = h[5];
@@ -40,11 +40,11 @@ pub fn read_header(h: &[u8]) -> Header
     if !(sampling::served_rate(nominal, rate) | (rate == 0)) {
         return Header::Refused(7);
     }
-    let kept = sampling::kept_rate(nominal, rate);
+    let meant = meant_rate(version, nominal, rate);
     Header::Opens {
         version,
         nominal,
-        rate: kept,
+        rate: meant,
         soc: be32(h[7], h[8], h[9], h[10]),
     }
 }
@@ -55,4 +55,14 @@ fn is_mark(h: &[u8]) -> bool
     ensures { λ r. ⌜ r ≡ isMark (now (h .entry)) ⌝ }
 {
     (h[0] == 80) & (h[1] == 72) & (h[2] == 83)
+}
+
+// CR 2: a version 1 file with rate 0 means 10, under which it was recorded; else the rate is what an opening keeps.
+fn meant_rate(version: u16, nominal: u8, rate: u8) -> u8
+    ensures { λ r. ⌜ r ≡ meantRate version nominal rate ⌝ }
+{
+    if (version == 1) & (rate == 0) {
+        return 10;
+    }
+    sampling::kept_rate(nominal, rate)
 }

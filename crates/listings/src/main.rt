@@ -6,16 +6,18 @@ use lister::Ending;
 fn main() {
     list_refused();
     list_sound();
+    list_rate_0();
     list_rest();
     end_otherwise();
 }
 
-// Refused headers: 14, 14, 12, 13, 6, 7.
+// Refused headers: 14, 14, 12, 13, 13, 6, 7.
 fn list_refused() {
     list_thrice(b"empty.phs");
     list_thrice(b"header_cut.phs");
     list_thrice(b"mark_wrong.phs");
     list_thrice(b"version_wrong.phs");
+    list_thrice(b"version_3.phs");
     list_thrice(b"nominal_wrong.phs");
     list_thrice(b"rate_wrong.phs");
 }
@@ -25,6 +27,14 @@ fn list_sound() {
     list_thrice(b"header_only.phs");
     list_thrice(b"fifty.phs");
     list_thrice(b"sixty.phs");
+}
+
+// Rate 0 at both nominals, in version 1, where it means 10, and in version 2, where it means a report every cycle.
+fn list_rate_0() {
+    list_thrice(b"fifty_rate_0_version_1.phs");
+    list_thrice(b"sixty_rate_0_version_1.phs");
+    list_thrice(b"fifty_rate_0_version_2.phs");
+    list_thrice(b"sixty_rate_0_version_2.phs");
 }
 
 // Refused 15, and 8 with much after it; then files of several reads, the last of them refused 15.

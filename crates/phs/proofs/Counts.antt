@@ -1,6 +1,6 @@
 -- The counts of a listing never wrap: refusal 8 ends a history before sample number 2^32 × sampling, and no more samples are counted than are numbered. Assumes nothing.
 use mathlib.Core.Path.{_≡_, refl, sym, ap, _∙_, subst}
-use mathlib.Core.Bool.{Bool, true, false, cond, _&&_, _||_}
+use mathlib.Core.Bool.{Bool, true, false, cond, _&&_}
 use mathlib.Core.List.{[], _∷_}
 use Prim.Native.Nat.{ℕ, _+_, _*_, _/_, _%_, _^_, _≤_, _<_}
 use native.Mathlib.Omega.{arith}
@@ -10,18 +10,11 @@ use borrow.Author.Tests.{eqb-true, eqb-false, eq-eqb}
 use Rattle.model.specs.declared.filter.Sample.{Sample}
 use Rattle.sampling.specs.Tags.{servedNominal, socOf, indexOf}
 use Rattle.sampling.specs.Sampling.{samplingOf}
+use Rattle.sampling.proofs.Samplings.{served-cases}
 use Rattle.feed.specs.Answers.{Said, refused, done, taken, takenWith}
 use Rattle.feed.specs.History.{History, nextNumber, opening, grown, answered, Told, told}
 use Rattle.feed.proofs.Alike.{isLast, told-last, told-on}
 use Rattle.phs.specs.Listing.{isRefusal, sampleIn, reportIn}
-
--- what holds at 50 and at 60 holds of a served nominal
-pub served-cases : (P : ℕ → Type 0) → P 50 → P 60 → (n : ℕ) → servedNominal n ≡ true → P n
-served-cases P a b n e = go (eqb n 50) refl
-  where
-    go : (t : Bool) → eqb n 50 ≡ t → P n
-    go true t = subst P (sym (eqb-true n 50 t)) a
-    go false t = subst P (sym (eqb-true n 60 (sym (ap (λ (x : Bool). x || eqb n 60) t) ∙ e))) b
 
 -- the numbers that samples have
 abbrev below : ℕ → ℕ → Type 0

@@ -1,17 +1,16 @@
 -- A header that is not refused has a served nominal, a served rate and a SOC of 32 bits. By the refusals in their order.
-use mathlib.Core.Path.{_≡_, refl, sym, ap, _∙_, subst}
-use mathlib.Core.Bool.{Bool, true, false, cond, _||_}
+use mathlib.Core.Path.{_≡_, refl, sym, subst}
+use mathlib.Core.Bool.{Bool, true, false}
 use mathlib.Core.List.{List, [], _∷_}
 use Prim.Native.Nat.{ℕ, _^_, _<_}
 use native.Mathlib.Omega.{arith}
-use lib.Dec.{eqb}
 use borrow.Author.Tests.{not-false}
 use Rattle.refusals.specs.Refusals.{Refusal, unlessRefused}
 use Rattle.refusals.proofs.Passing.{pass, stop}
-use Rattle.sampling.specs.Tags.{servedNominal, servedRate, keptRate, noNominal, noRate}
-use Rattle.header.specs.Header.{Said, refused, opens, headed, tooShort, noMark, noVersion, versionIn, nominalIn, rateIn, socIn}
+use Rattle.sampling.specs.Tags.{servedNominal, servedRate, noNominal, noRate}
+use Rattle.header.specs.Header.{Said, refused, opens, headed, tooShort, noMark, noVersion, versionIn, nominalIn, rateIn, socIn, meantRate}
+use Rattle.header.proofs.Meant.{meant-served}
 use Rattle.phs.specs.Cut.{Bytes}
-use Rattle.phs.proofs.Counts.{served-cases}
 
 -- what is known of a header's outcome
 pub data Known : Said → Type 0 where
@@ -27,23 +26,6 @@ module _ (P : Said → Type 0) (refuse : (n : ℕ) → P (refused n)) (grant : S
       go true e = subst P (sym (stop r rs refused grant e)) (refuse (r .number))
       go false e = subst P (sym (pass r rs refused grant e)) (on e)
 
-ten-served : (nominal : ℕ) → servedNominal nominal ≡ true → servedRate nominal 10 ≡ true
-unfolding servedRate
-ten-served = served-cases (λ n. servedRate n 10 ≡ true) refl refl
-
--- a rate that is served or 0 is served as it is kept
-rate-kept : (nominal rate : ℕ) → servedNominal nominal ≡ true → (servedRate nominal rate || eqb rate 0) ≡ true → servedRate nominal (keptRate nominal rate) ≡ true
-unfolding keptRate
-rate-kept nominal rate a b = go (eqb rate 0) refl
-  where
-    left : (x : Bool) → (x || false) ≡ true → x ≡ true
-    left true e = refl
-    left false e = e
-
-    go : (t : Bool) → eqb rate 0 ≡ t → servedRate nominal (cond (eqb rate 0) 10 rate) ≡ true
-    go true e = rw e (ten-served nominal a)
-    go false e = rw e (left (servedRate nominal rate) (sym (ap (λ (t : Bool). servedRate nominal rate || t) e) ∙ b))
-
 soc-fits : (h : List ℕ) → Bytes h → socIn h < 2 ^ 32
 unfolding socIn
 soc-fits h b = omega (arith, b 7, b 8, b 9, b 10)
@@ -51,7 +33,7 @@ soc-fits h b = omega (arith, b 7, b 8, b 9, b 10)
 pub header-known : (h : List ℕ) → Bytes h → Known (headed h)
 unfolding headed
 header-known h b =
-    let grant : Said = opens (versionIn h) (nominalIn h) (keptRate (nominalIn h) (rateIn h)) (socIn h) in
+    let grant : Said = opens (versionIn h) (nominalIn h) (meantRate (versionIn h) (nominalIn h) (rateIn h)) (socIn h) in
     let six = noNominal (nominalIn h) in
     let seven = noRate (nominalIn h) (rateIn h) in
     by-refusals Known not-read grant (tooShort h) (noMark h ∷ noVersion h ∷ six ∷ seven ∷ [])
@@ -59,4 +41,4 @@ header-known h b =
     (λ e. by-refusals Known not-read grant (noVersion h) (six ∷ seven ∷ [])
     (λ e. by-refusals Known not-read grant six (seven ∷ [])
     (λ n. by-refusals Known not-read grant seven []
-    (λ r. is-read (not-false _ n) (rate-kept _ _ (not-false _ n) (not-false _ r)) (soc-fits h b))))))
+    (λ r. is-read (not-false _ n) (meant-served _ _ _ (not-false _ n) (not-false _ r)) (soc-fits h b))))))

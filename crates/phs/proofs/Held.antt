@@ -1,16 +1,17 @@
 -- The bank that is lent keeps the file's history in slot 0: an opening in the cleared bank starts it, and each push answers as the history rule tells.
 use mathlib.Core.Path.{_≡_, refl, sym, ap, _∙_}
-use mathlib.Core.Bool.{Bool, true, false, cond}
+use mathlib.Core.Bool.{Bool, true, false}
 use mathlib.Core.List.{List}
 use Prim.Native.Nat.{ℕ}
 use native.Mathlib.Omega.{arith}
 use lib.Dec.{eqb}
 use lib.ListN.{length, take, replicate, length-replicate, replicate-append-replicate}
-use borrow.Author.Tests.{eq-eqb, eqb-true}
+use borrow.Author.Tests.{eq-eqb}
 use lib.Seq.{take-at}
 use Rattle.model.specs.declared.filter.Sample.{Sample}
 use Rattle.feed.specs.declared.Feed.{Feed}
 use Rattle.sampling.specs.Tags.{servedNominal, servedRate, keptRate}
+use Rattle.sampling.proofs.Rates.{kept-again}
 use Rattle.feed.specs.Answers.{refused, done}
 use Rattle.feed.specs.History.{History, opening, Told, told, answered}
 use Rattle.feed.specs.Places.{zeros}
@@ -25,7 +26,6 @@ use Rattle.bank.proofs.Slots.{same-slot, length-kept}
 use Rattle.bank.proofs.Keeping.{Kept, feed-back, slot-whole, slot-open, kept-undamaged, free-undamaged}
 use Rattle.bank.proofs.KeptOn.{opened-kept, stored-kept}
 use Rattle.phs.specs.Stream.{openedIn}
-use Rattle.phs.proofs.Counts.{served-cases, clash}
 
 -- slot 0 of this bank keeps this history
 pub record Holds (bank : List ℕ) (h : History) : Type 0 where
@@ -36,18 +36,6 @@ pub record Holds (bank : List ℕ) (h : History) : Type 0 where
   pub keeps : Keeps feed h
 
 -- ---- opening
-
-none-served : (nominal : ℕ) → servedNominal nominal ≡ true → servedRate nominal 0 ≡ false
-unfolding servedRate
-none-served = served-cases (λ n. servedRate n 0 ≡ false) refl refl
-
-kept-again : (nominal rate : ℕ) → servedNominal nominal ≡ true → servedRate nominal rate ≡ true → keptRate nominal rate ≡ rate
-unfolding keptRate
-kept-again nominal rate a e = go (eqb rate 0) refl
-  where
-    go : (t : Bool) → eqb rate 0 ≡ t → cond (eqb rate 0) 10 rate ≡ rate
-    go true t = absurd (clash (sym e ∙ ap (servedRate nominal) (eqb-true rate 0 t) ∙ none-served nominal a))
-    go false t = rw t
 
 zeros-length : length (zeros 4096) ≡ 4096
 unfolding zeros

@@ -1,3 +1,4 @@
 -- The laws of `sampling`.
 pub mod Unique
 pub mod Samplings
+pub mod Rates

@@ -37,9 +37,9 @@ noNominal nominal = record { number = 6; due = not (servedNominal nominal) }
 abbrev pub noRate : ℕ → ℕ → Refusal
 noRate nominal rate = record { number = 7; due = not (servedRate nominal rate || eqb rate 0) }
 
--- Rate 0 in an opening or a file header stands for 10, and 10 is what is kept, at either nominal
+-- CR 2: at opening, rate 0 stands for the nominal frequency, 50 or 60, and that is what is kept (of an unserved nominal, that number)
 unfoldable pub keptRate : ℕ → ℕ → ℕ
-keptRate nominal rate = cond (eqb rate 0) 10 rate
+keptRate nominal rate = cond (eqb rate 0) nominal rate
 
 -- D = sampling / rate
 abbrev pub spacing : ℕ → ℕ → ℕ

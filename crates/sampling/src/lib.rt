@@ -46,12 +46,12 @@ pub fn served_rate(nominal: u8, rate: u8) -> bool
     false
 }
 
-// Rate 0 stands for 10, and 10 is what is kept, at either nominal.
+// CR 2: at opening, rate 0 stands for the nominal frequency, and that is what is kept.
 pub fn kept_rate(nominal: u8, rate: u8) -> u8
     ensures { λ r. ⌜ r ≡ keptRate nominal rate ⌝ }
 {
     if rate == 0 {
-        return 10;
+        return nominal;
     }
     rate
 }

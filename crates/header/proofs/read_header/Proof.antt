@@ -1,9 +1,10 @@
 -- `header::read_header` meets its contract: each refusal where those before it have passed. Assumes nothing.
 use mathlib.Core.Path.{sym, ap, _∙_}
 use mathlib.Core.Bool.{Bool, _||_}
+use Prim.Native.Nat.{ℕ}
 use borrow.Author.Tests.{not-true, not-false}
 use lib.Dec.{eqb}
-use Rattle.header.specs.Header.{opens, versionIn, nominalIn, rateIn, socIn}
+use Rattle.header.specs.Header.{opens, versionIn, servedVersion, nominalIn, rateIn, socIn, meantRate}
 use Rattle.header.proofs.Order.{too-short, no-mark, no-version, no-nominal, no-rate, all-passed}
 use borrow.Author.Needs.{needs}
 use Rattle.header.proofs.read_header.Statement.{statement}
@@ -31,7 +32,7 @@ returns-3 : tie.Need-returns-3
 unfolding versionIn
 returns-3 c =
     let marked = sym (c .before .before .before .before .before .is-mark .ensures) ∙ not-false _ (c .before .before .before .before .if2 .left) in
-    no-version (c .before .before .before .before .before .before .before .before .args .h .now) (c .before .before .before .before .before .before .if1 .left) marked (λ e. c .if3 .taken (c .before .be16 .ensures ∙ e))
+    no-version (c .before .before .before .before .before .before .before .before .args .h .now) (c .before .before .before .before .before .before .if1 .left) marked (ap servedVersion (sym (c .before .be16 .ensures)) ∙ not-true _ (c .if3 .taken))
 
 shared-slice-read-nominal : tie.Need-shared-slice-read-nominal
 shared-slice-read-nominal c = search needs
@@ -43,8 +44,8 @@ returns-4 : tie.Need-returns-4
 unfolding versionIn
 returns-4 c =
     let marked = sym (c .before .before .before .before .before .before .before .before .is-mark .ensures) ∙ not-false _ (c .before .before .before .before .before .before .before .if2 .left) in
-    let read = sym (c .before .before .before .before .be16 .ensures) ∙ c .before .before .before .if3 .left in
-    no-nominal (c .before .before .before .before .before .before .before .before .before .before .before .args .h .now) (c .before .before .before .before .before .before .before .before .before .if1 .left) marked read (sym (c .before .served-nominal .ensures) ∙ not-true _ (c .if4 .taken))
+    let versioned = ap servedVersion (sym (c .before .before .before .before .be16 .ensures)) ∙ not-false _ (c .before .before .before .if3 .left) in
+    no-nominal (c .before .before .before .before .before .before .before .before .before .before .before .args .h .now) (c .before .before .before .before .before .before .before .before .before .if1 .left) marked versioned (sym (c .before .served-nominal .ensures) ∙ not-true _ (c .if4 .taken))
 
 shared-slice-read-rate : tie.Need-shared-slice-read-rate
 shared-slice-read-rate c = search needs
@@ -56,13 +57,13 @@ returns-5 : tie.Need-returns-5
 unfolding versionIn
 returns-5 c =
     let marked = sym (c .before .before .before .before .before .before .before .before .before .before .before .is-mark .ensures) ∙ not-false _ (c .before .before .before .before .before .before .before .before .before .before .if2 .left) in
-    let read = sym (c .before .before .before .before .before .before .before .be16 .ensures) ∙ c .before .before .before .before .before .before .if3 .left in
+    let versioned = ap servedVersion (sym (c .before .before .before .before .before .before .before .be16 .ensures)) ∙ not-false _ (c .before .before .before .before .before .before .if3 .left) in
     let at-nominal = sym (c .before .before .before .before .served-nominal .ensures) ∙ not-false _ (c .before .before .before .if4 .left) in
-    no-rate (c .before .before .before .before .before .before .before .before .before .before .before .before .before .before .args .h .now) (c .before .before .before .before .before .before .before .before .before .before .before .before .if1 .left) marked read at-nominal
+    no-rate (c .before .before .before .before .before .before .before .before .before .before .before .before .before .before .args .h .now) (c .before .before .before .before .before .before .before .before .before .before .before .before .if1 .left) marked versioned at-nominal
     (ap (λ (t : Bool). t || eqb (rateIn (c .before .before .before .before .before .before .before .before .before .before .before .before .before .before .args .h .now)) 0) (sym (c .before .served-rate .ensures)) ∙ not-true _ (c .if5 .taken))
 
-kept-rate-requires : tie.Need-kept-rate-requires
-kept-rate-requires c κs = search needs
+meant-rate-requires : tie.Need-meant-rate-requires
+meant-rate-requires c κs = search needs
 
 shared-slice-read-be32 : tie.Need-shared-slice-read-be32
 shared-slice-read-be32 c = search needs
@@ -84,11 +85,12 @@ unfolding versionIn socIn
 returns-6 c =
     let h = c .before .before .before .before .before .before .before .before .before .before .before .before .before .before .before .before .before .before .before .before .args .h .now in
     let marked = sym (c .before .before .before .before .before .before .before .before .before .before .before .before .before .before .before .before .before .is-mark .ensures) ∙ not-false _ (c .before .before .before .before .before .before .before .before .before .before .before .before .before .before .before .before .if2 .left) in
-    let read = sym (c .before .before .before .before .before .before .before .before .before .before .before .before .before .be16 .ensures) ∙ c .before .before .before .before .before .before .before .before .before .before .before .before .if3 .left in
+    let versioned = ap servedVersion (sym (c .before .before .before .before .before .before .before .before .before .before .before .before .before .be16 .ensures)) ∙ not-false _ (c .before .before .before .before .before .before .before .before .before .before .before .before .if3 .left) in
     let at-nominal = sym (c .before .before .before .before .before .before .before .before .before .before .served-nominal .ensures) ∙ not-false _ (c .before .before .before .before .before .before .before .before .before .if4 .left) in
     let at-rate = ap (λ (t : Bool). t || eqb (rateIn h) 0) (sym (c .before .before .before .before .before .before .before .served-rate .ensures)) ∙ not-false _ (c .before .before .before .before .before .before .if5 .left) in
-    (λ i. opens (c .before .before .before .before .before .before .before .before .before .before .before .before .before .be16 .ensures i) (nominalIn h) (c .before .before .before .before .before .kept-rate .ensures i) (c .be32 .ensures i))
-    ∙ all-passed h (c .before .before .before .before .before .before .before .before .before .before .before .before .before .before .before .before .before .before .if1 .left) marked read at-nominal at-rate
+    let meant = c .before .before .before .before .before .meant-rate .ensures ∙ ap (λ (v : ℕ). meantRate v (nominalIn h) (rateIn h)) (c .before .before .before .before .before .before .before .before .before .before .before .before .before .be16 .ensures) in
+    (λ i. opens (c .before .before .before .before .before .before .before .before .before .before .before .before .before .be16 .ensures i) (nominalIn h) (meant i) (c .be32 .ensures i))
+    ∙ all-passed h (c .before .before .before .before .before .before .before .before .before .before .before .before .before .before .before .before .before .before .if1 .left) marked versioned at-nominal at-rate
 
 pub read-header-spec : {M : Type 1} → statement M
 read-header-spec =
@@ -107,7 +109,7 @@ read-header-spec =
     shared-slice-read-rate
     served-rate-requires
     returns-5
-    kept-rate-requires
+    meant-rate-requires
     shared-slice-read-be32
     shared-slice-read-be32-2
     shared-slice-read-be32-3
