@@ -265,14 +265,16 @@ def stored_files():
     """The files that `listings` lists, by name, in its order."""
     samples = body(steady_wave(60, 60.5, AMPLITUDE, 200))
     return {
-        # refused 14, 14, 12, 13, 13, 6, 7; whole headers have samples after them
+        # refused 14, 14, 12, 6, 7, and four times 13; whole headers have samples after them
         "empty": b"",
         "header_cut": header(60, 60)[:10],
         "mark_wrong": header(60, 60, mark=b"PHT") + samples,
-        "version_wrong": header(60, 60, version=256) + samples,
-        "version_3": header(60, 0, version=3) + samples,
         "nominal_wrong": header(51, 10) + samples,
         "rate_wrong": header(60, 50) + samples,
+        "version_0": header(60, 60, version=0) + samples,
+        "version_3": header(60, 0, version=3) + samples,
+        "version_256": header(60, 60, version=256) + samples,
+        "version_258": header(60, 0, version=258) + samples,
         # sound; the waves pass the turn of a second
         "header_only": header(50, 10),
         "fifty": off_nominal(50, 25, 1.2, 0.37),

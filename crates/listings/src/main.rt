@@ -1,25 +1,32 @@
-// Lists the stored files of its folder in turn, through `lister::list`: every refusal of a file, both nominals, short files and long ones.
+// Lists the stored files of its folder in turn, through `lister::list`: every refusal of a file, both nominals and versions, short files and long ones.
 use libc::STDOUT_FILENO;
 use lister::Ending;
 
 // The program.
 fn main() {
     list_refused();
+    list_other_versions();
     list_sound();
     list_rate_0();
     list_rest();
     end_otherwise();
 }
 
-// Refused headers: 14, 14, 12, 13, 13, 6, 7.
+// Refused headers: 14, 14, 12, 6, 7.
 fn list_refused() {
     list_thrice(b"empty.phs");
     list_thrice(b"header_cut.phs");
     list_thrice(b"mark_wrong.phs");
-    list_thrice(b"version_wrong.phs");
-    list_thrice(b"version_3.phs");
     list_thrice(b"nominal_wrong.phs");
     list_thrice(b"rate_wrong.phs");
+}
+
+// Refused 13: numbers beside 1 and 2, and numbers with 1 or 2 as one of their bytes.
+fn list_other_versions() {
+    list_thrice(b"version_0.phs");
+    list_thrice(b"version_3.phs");
+    list_thrice(b"version_256.phs");
+    list_thrice(b"version_258.phs");
 }
 
 // Sound files.
