@@ -1,4 +1,4 @@
--- Document 01, "Sampling and tags": which nominals and rates are served, the kept rate, D, and where a sample stands.
+-- Document 01, "Sampling and tags", with CR 2: which nominals and rates are served, the kept rate, D, and where a sample stands.
 use mathlib.Core.Bool.{Bool, false, not, cond, _||_}
 use mathlib.Core.List.{List, [], _∷_}
 use Prim.Native.Nat.{ℕ, _/_, _%_}

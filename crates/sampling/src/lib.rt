@@ -1,4 +1,4 @@
-// Document 01, "Sampling and tags": the nominal frequency and its sampling, and which rates are served.
+// Document 01, "Sampling and tags", with CR 2: the nominal frequency and its sampling, and which rates are served.
 ghost use mathlib.Core.Path.{_≡_};
 ghost use Rattle.sampling.specs.Sampling.{sampling};
 ghost use Rattle.sampling.specs.Tags.{servedNominal, servedRate, keptRate, nominalOf};
