@@ -124,7 +124,7 @@ def rate_0_at_opening():
 
 
 def rate_0_in_headers():
-    """CR 2: in version 1 rate 0 means 10, in version 2 the nominal frequency; versions other than these are refused 13."""
+    """CR 2: rate 0 means 10 in version 1 and the nominal frequency in version 2; other versions are refused 13."""
     def listed(version, nominal, rate):
         return listing(struct.pack(">3sHBBI", b"PHS", version, nominal, rate, 1000))
 
