@@ -1,11 +1,11 @@
 """The figures of document 01, of CR 1 and of CR 2 on both sides of each edge, held against the model."""
 
 import random
-import struct
 
+from files import document, header
 from reference import (
     BANK_BYTES, DONE, LEFT_OUT, SERVED, Device, Feed, Reference, Refused, Taken, Verdict, angle,
-    bits, cos, differences, feed_of, frame_spacing, frequency_deviation, judge, listing, no_phase,
+    bits, differences, feed_of, frame_spacing, frequency_deviation, judge, listing, no_phase,
     open_feed, positive_sequence, push, put_slot, sampling, slot_bytes, slot_of, whole_run, within_tve)
 
 CLASSES = (0, 1)
@@ -106,10 +106,7 @@ def runs_of_31():
 
 def whole_listing():
     """The listing of 31 samples of the tables, at 60 Hz and rate 60, from SOC 1000."""
-    data = struct.pack(">3sHBBI", b"PHS", 1, 60, 60, 1000)
-    for n in range(31):
-        data += struct.pack(">hhh", cos(n), cos(n - 5), cos(n - 10))
-    yield listing(data), b"PHS 1 60 60\n1000 1 90598592160 0 0 0 0\nreports 1 samples 31\n"
+    yield listing(document()), b"PHS 1 60 60\n1000 1 90598592160 0 0 0 0\nreports 1 samples 31\n"
 
 
 def rate_0_at_opening():
@@ -117,25 +114,23 @@ def rate_0_at_opening():
     for nominal, rates in SERVED.items():
         for rate in (0,) + rates:
             bank = bytearray(BANK_BYTES)
-            yield open_feed(bank, 9, nominal, rate, 1000), DONE
-            yield feed_of(slot_bytes(bank, 9)).rate, rate or nominal
-        bank[9 * 256 + 2] = 0
-        yield push(bank, 9, 0, 0, 0), Refused(3)
+            yield open_feed(bank, 0, nominal, rate, 1000), DONE
+            yield bank[2], rate or nominal
+        bank[2] = 0
+        yield push(bank, 0, 0, 0, 0), Refused(3)
 
 
 def rate_0_in_headers():
     """CR 2: rate 0 means 10 in version 1 and the nominal frequency in version 2; other versions are refused 13."""
-    def listed(version, nominal, rate):
-        return listing(struct.pack(">3sHBBI", b"PHS", version, nominal, rate, 1000))
-
     for version, nominal, rate, kept in ((1, 50, 0, 10), (1, 60, 0, 10), (2, 50, 0, 50), (2, 60, 0, 60),
                                          (1, 50, 50, 50), (1, 60, 60, 60), (2, 50, 10, 10), (2, 60, 10, 10)):
-        yield listed(version, nominal, rate), b"PHS %d %d %d\nreports 0 samples 0\n" % (version, nominal, kept)
+        line = b"PHS %d %d %d\n" % (version, nominal, kept)
+        yield listing(header(nominal, rate, version=version)), line + b"reports 0 samples 0\n"
     for version in (0, 3, 256, 512, 65535):
-        yield listed(version, 60, 0), b"refused 13\n"
+        yield listing(header(60, 0, version=version)), b"refused 13\n"
     for version in (1, 2):
-        yield listed(version, 51, 0), b"refused 6\n"
-        yield listed(version, 60, 50), b"refused 7\n"
+        yield listing(header(51, 0, version=version)), b"refused 6\n"
+        yield listing(header(60, 50, version=version)), b"refused 7\n"
 
 
 def bank_and_whole_run():

@@ -7,7 +7,7 @@ use lib.Dec.{eqb}
 use lib.ListN.{length}
 use borrow.Author.Tests.{lt-ltb, le-ltb}
 use Rattle.sampling.specs.Tags.{servedNominal, servedRate}
-use Rattle.header.specs.Header.{refused, opens, headed, isMark, versionIn, servedVersion, nominalIn, rateIn, socIn, meantRate}
+use Rattle.header.specs.Header.{refused, headed, isMark, versionIn, servedVersion, nominalIn, rateIn, openingIn}
 
 module _ (h : List ℕ) where
   pub too-short : length h < 11 → refused 14 ≡ headed h
@@ -34,7 +34,6 @@ module _ (h : List ℕ) where
           unfolding headed
           no-rate r = rw (le-ltb (length h) 11 long, marked, versioned, served, r)
 
-          pub all-passed : (servedRate (nominalIn h) (rateIn h) || eqb (rateIn h) 0) ≡ true
-              → opens (versionIn h) (nominalIn h) (meantRate (versionIn h) (nominalIn h) (rateIn h)) (socIn h) ≡ headed h
+          pub all-passed : (servedRate (nominalIn h) (rateIn h) || eqb (rateIn h) 0) ≡ true → openingIn h ≡ headed h
           unfolding headed
           all-passed r = rw (le-ltb (length h) 11 long, marked, versioned, served, r)

@@ -72,9 +72,13 @@ said (Opens version nominal rate soc) = opens version nominal rate soc
 unfoldable pub meantRate : (version nominal rate : ℕ) → ℕ
 meantRate version nominal rate = cond (eqb version 1 && eqb rate 0) 10 (keptRate nominal rate)
 
--- a header that is not refused opens a feed; the rate is the one kept
+-- what it opens a feed with; the rate is the one kept
+abbrev pub openingIn : List ℕ → Said
+openingIn h = opens (versionIn h) (nominalIn h) (meantRate (versionIn h) (nominalIn h) (rateIn h)) (socIn h)
+
+-- a header that is not refused opens a feed
 unfoldable pub headed : List ℕ → Said
-headed h = unlessRefused (headerRefusals h) refused (opens (versionIn h) (nominalIn h) (meantRate (versionIn h) (nominalIn h) (rateIn h)) (socIn h))
+headed h = unlessRefused (headerRefusals h) refused (openingIn h)
 
 -- what `read_header` promises
 abbrev pub Heading : List ℕ → Header → Type 0

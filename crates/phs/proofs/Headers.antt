@@ -8,7 +8,7 @@ use borrow.Author.Tests.{not-false}
 use Rattle.refusals.specs.Refusals.{Refusal, unlessRefused}
 use Rattle.refusals.proofs.Passing.{pass, stop}
 use Rattle.sampling.specs.Tags.{servedNominal, servedRate, noNominal, noRate}
-use Rattle.header.specs.Header.{Said, refused, opens, headed, tooShort, noMark, noVersion, versionIn, nominalIn, rateIn, socIn, meantRate}
+use Rattle.header.specs.Header.{Said, refused, opens, headed, tooShort, noMark, noVersion, nominalIn, rateIn, socIn, openingIn}
 use Rattle.header.proofs.Meant.{meant-served}
 use Rattle.phs.specs.Cut.{Bytes}
 
@@ -33,7 +33,7 @@ soc-fits h b = omega (arith, b 7, b 8, b 9, b 10)
 pub header-known : (h : List ℕ) → Bytes h → Known (headed h)
 unfolding headed
 header-known h b =
-    let grant : Said = opens (versionIn h) (nominalIn h) (meantRate (versionIn h) (nominalIn h) (rateIn h)) (socIn h) in
+    let grant = openingIn h in
     let six = noNominal (nominalIn h) in
     let seven = noRate (nominalIn h) (rateIn h) in
     by-refusals Known not-read grant (tooShort h) (noMark h ∷ noVersion h ∷ six ∷ seven ∷ [])
