@@ -3,6 +3,7 @@ pub mod ConditionA
 pub mod Within
 pub mod ConditionB
 pub mod ConditionC
+pub mod Salvage
 pub mod Figures
 pub mod Document
 pub mod Tied

@@ -5,7 +5,6 @@ use mathlib.Core.List.{List, [], _∷_}
 use Prim.Native.Nat.{ℕ}
 use Rattle.refusals.specs.Refusals.{Refusal, unlessRefused}
 use Rattle.refusals.proofs.Passing.{pass, stop}
-use Rattle.feed.specs.Answers.{Said, refused, done, taken, takenWith}
 use Rattle.acceptance.specs.ConditionA.{FirstDue, here, later, Answers, Ended, Refuses}
 
 -- ---- a list of refusals
@@ -73,43 +72,37 @@ module _ {A S : Type 0} (saying : A → S) (refused-as : ℕ → S) (one-number 
 
 -- ---- a call that is lent something
 
--- outcomes of type X: what is said and what was lent, joined and taken apart
-pub record Joins (B X : Type 0) : Type 0 where
-  pub join : Said → B → X
-  pub says : X → Said
+-- outcomes of type X: an answer and what was lent, joined, and what is said and was lent, taken apart
+pub record Joins {A S : Type 0} (saying : A → S) (B X : Type 0) : Type 0 where
+  pub join : A → B → X
+  pub says : X → S
   pub lent : X → B
-  pub says-joined : (s : Said) (b : B) → says (join s b) ≡ s
-  pub lent-joined : (s : Said) (b : B) → lent (join s b) ≡ b
-
--- an answer that is no refusal
-abbrev pub Granted : Said → Type 0
-Granted (refused n) = ⊥
-Granted done = Unit {0}
-Granted taken = Unit {0}
-Granted (takenWith soc frame re im d1 d2 mark rePeak imPeak deviation rocof) = Unit {0}
+  pub says-joined : (r : A) (b : B) → says (join r b) ≡ saying r
+  pub lent-joined : (r : A) (b : B) → lent (join r b) ≡ b
 
 -- `refusal n` is how the call's answer refuses, and `grants` is what it answers where no refusal is due
-module _ {A B X : Type 0} (j : Joins B X) (saying : A → Said) (refusal : ℕ → A) (refusal-said : (n : ℕ) → saying (refusal n) ≡ refused n)
-    (list : List Refusal) (before after : B) (grants : A) (grant : Said) (grants-said : saying grants ≡ grant) (no-refusal : Granted grant) where
+module _ {A B S X : Type 0} {saying : A → S} (j : Joins saying B X) (refused-as : ℕ → S) (one-number : (m n : ℕ) → refused-as m ≡ refused-as n → m ≡ n)
+    (refusal : ℕ → A) (refusal-said : (n : ℕ) → saying (refusal n) ≡ refused-as n) (list : List Refusal) (before after : B)
+    (grant : X) (grants : A) (granting : j .join grants after ≡ grant) (no-refusal : (n : ℕ) → saying grants ≡ refused-as n → ⊥) where
   abbrev refuse : ℕ → X
-  refuse n = j .join (refused n) before
+  refuse n = j .join (refusal n) before
 
   abbrev Promised : A → B → Type 0
-  Promised r b = j .join (saying r) b ≡ unlessRefused list refuse (j .join grant after)
+  Promised r b = j .join r b ≡ unlessRefused list refuse grant
 
-  answering : Answers {E = Ended A B} (λ e. saying (e .answer)) refused list (λ e. Promised (e .answer) (e .after))
+  answering : Answers {E = Ended A B} (λ e. saying (e .answer)) refused-as list (λ e. Promised (e .answer) (e .after))
   answering =
-      answers (λ (e : Ended A B). saying (e .answer)) refused (λ m n e. cc)
-      (λ (e : Ended A B). j .join (saying (e .answer)) (e .after)) (j .says) (λ e. j .says-joined (saying (e .answer)) (e .after))
-      refuse (λ n. j .says-joined (refused n) before)
-      (λ n. (record { answer = refusal n; after = before }, ap (λ (s : Said). j .join s before) (refusal-said n)))
-      list (j .join grant after) (λ n e. subst Granted (sym (j .says-joined grant after) ∙ e) no-refusal)
-      (record { answer = grants; after = after }, ap (λ (s : Said). j .join s after) grants-said)
+      answers (λ (e : Ended A B). saying (e .answer)) refused-as one-number
+      (λ (e : Ended A B). j .join (e .answer) (e .after)) (j .says) (λ e. j .says-joined (e .answer) (e .after))
+      refuse (λ n. j .says-joined (refusal n) before ∙ refusal-said n)
+      (λ n. (record { answer = refusal n; after = before }, refl))
+      list grant (λ n e. no-refusal n (sym (j .says-joined grants after) ∙ ap (j .says) granting ∙ e))
+      (record { answer = grants; after = after }, granting)
 
-  pub refuses : Refuses saying list before Promised
+  pub refuses : Refuses saying refused-as list before Promised
   refuses = record {
     answers = answering;
     alters-nothing = λ r b n p e.
         let f = answering .no-other (record { answer = r; after = b }) n p e in
-        sym (j .lent-joined (saying r) b) ∙ ap (j .lent) (p ∙ given refuse (j .join grant after) f) ∙ j .lent-joined (refused n) before;
+        sym (j .lent-joined r b) ∙ ap (j .lent) (p ∙ given refuse grant f) ∙ j .lent-joined (refusal n) before;
   }

@@ -19,6 +19,7 @@ use Rattle.feed.specs.Ring.{unserved, uneven, early, faulty, opened, nextHead, 
 use Rattle.bank.specs.Slot.{slotAt, withSlot, headIn, headBytes, placesIn, tailIn, tailOf, feedIn, slotOf, freeSlot}
 use Rattle.bank.specs.Damage.{blank, stray, isDamaged}
 use Rattle.bank.specs.Calls.{Outcome, cleared, openedAt, pushedAt, closedAt}
+use Rattle.salvage.specs.Image.{salvaged, Outcome as Salvage, Said as SalvageSaid, refused as salvageRefused, mended, said as salvageSaid}
 use Rattle.runs.specs.Runs.{measured, Said as RunSaid, refused as runRefused, figures}
 use Rattle.verdict.specs.Errors.{errorsOf}
 use Rattle.verdict.specs.Judging.{verdictOn, judgement}
@@ -33,6 +34,10 @@ kindOf (refused n) = 0
 kindOf done = 1
 kindOf taken = 2
 kindOf (takenWith soc frame re im d1 d2 mark rePeak imPeak deviation rocof) = 3
+
+abbrev salvageKind : SalvageSaid → ℕ
+salvageKind (salvageRefused n) = 0
+salvageKind (mended slots) = 1
 
 -- the frame and the re of a report; 0 where there is none
 abbrev frameOf : Said → ℕ
@@ -77,12 +82,13 @@ same-size : {x y z : ℤ} → x ≡ y → x ≡ z → natAbs y ≡ natAbs z
 same-size p q = ap natAbs (sym p ∙ q)
 
 refuses-everything : RefusesEverything
-unfolding cleared openedAt pushedAt closedAt slotAt withSlot headIn headBytes placesIn tailIn tailOf feedIn slotOf freeSlot blank stray isDamaged unserved uneven early faulty opened nextHead stored historyOf pushed zeros servedRate keptRate sampleOf placeOf samplesOf withPlace signedIn bits16 isDue answered measured judgement errorsOf verdictOn isMark versionIn socIn headed sum weight offset phaseSum term weighted positive arctan scaled turned step steps noPhase phaseAngle phaseOf secondDifference differences joined phaseAt figuresAt tagged reportAt
+unfolding cleared openedAt pushedAt closedAt salvaged slotAt withSlot headIn headBytes placesIn tailIn tailOf feedIn slotOf freeSlot blank stray isDamaged unserved uneven early faulty opened nextHead stored historyOf pushed zeros servedRate keptRate sampleOf placeOf samplesOf withPlace signedIn bits16 isDue answered measured judgement errorsOf verdictOn isMark versionIn socIn headed sum weight offset phaseSum term weighted positive arctan scaled turned step steps noPhase phaseAngle phaseOf secondDifference differences joined phaseAt figuresAt tagged reportAt
 refuses-everything = record {
   clearing = λ n after p. omega (arith, answer-is p);
   opening = λ n after p. omega (arith, answer-is p);
   pushing = λ n after p. omega (arith, answer-is p);
   closing = λ n after p. omega (arith, answer-is p);
+  salvaging = λ n slots after p. let e = ap (λ (o : Salvage). salvageKind (salvageSaid (o .answer))) p in omega (arith, e);
   feeding = λ n next p. let e = ap (λ (o : Next). kindOf (o .answer)) p in omega (arith, e);
   judging = λ n p. let z : _≡_ {A = ℕ} 0 1 = cc in omega arith;
   measuring = λ n p. let e = ap runKind p in omega (arith, e);

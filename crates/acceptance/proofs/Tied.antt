@@ -7,7 +7,8 @@ use Rattle.header.proofs.Unique.{read-header-unique}
 use Rattle.text.proofs.Unique.{put-unique, put-hex-unique}
 use Rattle.model.proofs.Unique.{measure-unique}
 use Rattle.feed.proofs.Unique.{head-is-faulty-unique, feed-open-unique, feed-push-unique, sample-of-unique}
-use Rattle.bank.proofs.Unique.{clear-unique, open-unique, push-unique, close-unique}
+use Rattle.bank.proofs.Unique.{clear-unique, open-unique, push-unique, close-unique, damage-of-unique}
+use Rattle.salvage.proofs.Unique.{mend-unique}
 use Rattle.runs.proofs.Unique.{measure-unique as run-unique}
 use Rattle.verdict.proofs.Unique.{judge-unique}
 use Rattle.phs.specs.Stream.{Read}
@@ -84,6 +85,12 @@ tied = record {
   bank-close-asks-nothing = λ κs a. tt;
   bank-close-says = λ κs a r s p. p;
   bank-close-unique = λ κs a r q s t. close-unique (now (a .0)) (a .1 .0) r q (now (s .0)) (now (t .0));
+  bank-damage-of-asks-nothing = λ κs a. tt;
+  bank-damage-of-says = λ κs a r s p. p;
+  bank-damage-of-unique = λ κs a r q s t. damage-of-unique (a .0) r q;
+  salvage-mend-asks-nothing = λ κs a. tt;
+  salvage-mend-says = λ κs a r s p. p;
+  salvage-mend-unique = λ κs a r q s t. mend-unique (now (a .0)) r q (now (s .0)) (now (t .0));
   runs-measure-asks-nothing = λ κs a. tt;
   runs-measure-says = λ κs a r s p. p;
   runs-measure-unique = λ κs a r q s t. run-unique (now (a .0)) (now (a .1 .0)) (now (a .1 .1 .0)) (a .1 .1 .1 .0) (a .1 .1 .1 .1 .0) r q;

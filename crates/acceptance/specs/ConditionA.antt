@@ -8,13 +8,14 @@ use lib.IntN.{ℤ}
 use Rattle.model.specs.declared.filter.Sample.{Sample}
 use Rattle.refusals.specs.Refusals.{Refusal}
 use Rattle.feed.specs.declared.Feed.{Feed}
-use Rattle.feed.specs.Answers.{Said, refused, said}
+use Rattle.feed.specs.Answers.{refused, said}
 use Rattle.feed.specs.Ring.{feedRefusals, Pushing as FeedPushing}
 use Rattle.runs.specs.Runs.{runRefusals, RunMeasuring, refused as runRefused, said as runSaid}
 use Rattle.header.specs.Header.{headerRefusals, Heading, refused as headerRefused, said as headerSaid}
 use Rattle.verdict.specs.declared.errors.Device.{Device}
 use Rattle.verdict.specs.declared.errors.Reference.{Reference}
 use Rattle.verdict.specs.Judging.{judgeRefusals, Judging, refused as verdictRefused, said as verdictSaid}
+use Rattle.salvage.specs.Image.{mendRefusals, Mending, refused as salvageRefused, said as salvageSaid}
 use Rattle.bank.specs.Calls.{settled, clearRefusals, openRefusals, pushRefusals, closeRefusals, Clearing, Opening, Pushing, Closing}
 
 -- the number of the first refusal of the list whose test holds
@@ -37,25 +38,27 @@ pub record Ended (A B : Type 0) : Type 0 where
   pub after : B
 
 -- A call that may be refused and is lent `before`; `promised` is what its contract says of the answer and of what was lent
-pub record Refuses {A B : Type 0} (saying : A → Said) (list : List Refusal) (before : B) (promised : A → B → Type 0) : Type 0 where
-  pub answers : Answers {E = Ended A B} (λ e. saying (e .answer)) refused list (λ e. promised (e .answer) (e .after))
+pub record Refuses {A B S : Type 0} (saying : A → S) (refusing : ℕ → S) (list : List Refusal) (before : B) (promised : A → B → Type 0) : Type 0 where
+  pub answers : Answers {E = Ended A B} (λ e. saying (e .answer)) refusing list (λ e. promised (e .answer) (e .after))
   -- "A refused call answers its number only and alters no byte lent to it"
-  pub alters-nothing : (r : A) (after : B) (n : ℕ) → promised r after → saying r ≡ refused n → after ≡ before
+  pub alters-nothing : (r : A) (after : B) (n : ℕ) → promised r after → saying r ≡ refusing n → after ≡ before
 
--- demand 1, of each call: the clause above each is document 01's order of refusals
+-- demand 1, of each call: the clause above each is the order of refusals of document 01, or of the request
 pub record ConditionA : Type 0 where
   -- clear 1
-  pub clearing : (bank : List ℕ) → Refuses settled (clearRefusals bank) bank (Clearing bank)
+  pub clearing : (bank : List ℕ) → Refuses settled refused (clearRefusals bank) bank (Clearing bank)
   -- open 1, 2, 3, 4, 6, 7
   pub opening : (bank : List ℕ) (slot nominal rate soc : ℕ)
-      → Refuses settled (openRefusals bank slot nominal rate) bank (Opening bank slot nominal rate soc)
+      → Refuses settled refused (openRefusals bank slot nominal rate) bank (Opening bank slot nominal rate soc)
   -- push 1, 2, 3, 5, 8
-  pub pushing : (bank : List ℕ) (slot : ℕ) (s : Sample) → Refuses said (pushRefusals bank slot) bank (Pushing bank slot s)
+  pub pushing : (bank : List ℕ) (slot : ℕ) (s : Sample) → Refuses said refused (pushRefusals bank slot) bank (Pushing bank slot s)
   -- close 1, 2, 3, 5
-  pub closing : (bank : List ℕ) (slot : ℕ) → Refuses settled (closeRefusals bank slot) bank (Closing bank slot)
+  pub closing : (bank : List ℕ) (slot : ℕ) → Refuses settled refused (closeRefusals bank slot) bank (Closing bank slot)
+  -- salvage 1
+  pub salvaging : (image : List ℕ) → Refuses salvageSaid salvageRefused (mendRefusals image) image (Mending image)
   -- a feed by itself, passed through a push as one value: 3, 8; refused, it comes back as it was
   pub feeding : (f : Feed) (s : Sample)
-      → Refuses said (feedRefusals (f .head)) f (λ answer next. FeedPushing f s (record { answer = answer; feed = next }))
+      → Refuses said refused (feedRefusals (f .head)) f (λ answer next. FeedPushing f s (record { answer = answer; feed = next }))
   -- judging 10, 11, 9
   pub judging : (class test : ℕ) (m : ℤ) (device : Device) (reference : Reference)
       → Answers verdictSaid verdictRefused (judgeRefusals class test reference) (Judging class test m device reference)

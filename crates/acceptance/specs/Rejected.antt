@@ -26,6 +26,9 @@ use Rattle.feed.specs.Ring.{opened, Pushing as FeedPushing}
 use Rattle.bank.specs.declared.Settled.the-variants.{Refused as SettledRefused, Done}
 use Rattle.bank.specs.Slot.{slotAt, withSlot, slotOf}
 use Rattle.bank.specs.Calls.{Clearing, Opening, Pushing, Closing}
+use Rattle.salvage.specs.declared.MendedSlot.{MendedSlot}
+use Rattle.salvage.specs.declared.Ending.the-variants.{Refused as EndingRefused}
+use Rattle.salvage.specs.Image.{Mending}
 use Rattle.runs.specs.declared.Measured.{Measured}
 use Rattle.runs.specs.declared.Measured.the-variants.{Refused as MeasuredRefused, Given}
 use Rattle.runs.specs.Runs.{sampleAt, RunMeasuring}
@@ -79,6 +82,7 @@ pub record RefusesEverything : Type 0 where
   pub opening : (n : ℕ) (after : List ℕ) → Opening blankBank 0 60 60 1000 (SettledRefused n) after → ⊥
   pub pushing : (n : ℕ) (after : List ℕ) → Pushing (heldBank 0 (samplesFrom 0 30)) 0 (wave 30) (Refused n) after → ⊥
   pub closing : (n : ℕ) (after : List ℕ) → Closing (openBank 0) 0 (SettledRefused n) after → ⊥
+  pub salvaging : (n : ℕ) (slots : List MendedSlot) (after : List ℕ) → Mending blankBank (record { ending = EndingRefused n; slots = slots }) after → ⊥
   pub feeding : (n : ℕ) (next : Feed) → FeedPushing (opened 60 60 1000) oneTwoThree (record { feed = next; answer = Refused n }) → ⊥
   pub judging : (n : ℕ) → Judging 0 0 (pos 0) (device 10100 0) (reference 10000 0) (JudgedRefused n) → ⊥
   pub measuring : (n : ℕ) → RunMeasuring twoPeaks silence silence 15 60 (MeasuredRefused n) → ⊥

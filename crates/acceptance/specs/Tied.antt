@@ -17,7 +17,9 @@ use Rattle.text.specs.Put.{Put, filled, roomFor}
 use Rattle.model.specs.Report.{Measuring}
 use Rattle.feed.specs.Places.{sampleOf}
 use Rattle.feed.specs.Ring.{faulty, opened, Pushing as FeedPushing}
+use Rattle.bank.specs.Damage.{damageOf}
 use Rattle.bank.specs.Calls.{Clearing, Opening, Pushing, Closing}
+use Rattle.salvage.specs.Image.{Mending}
 use Rattle.runs.specs.Runs.{RunMeasuring}
 use Rattle.verdict.specs.Judging.{Judging}
 use Rattle.phs.specs.Stream.{started, Reading, Finishing}
@@ -43,6 +45,8 @@ use Rattle.bank.proofs.clear.Reads as clearReads
 use Rattle.bank.proofs.open.Reads as openReads
 use Rattle.bank.proofs.push.Reads as pushReads
 use Rattle.bank.proofs.close.Reads as closeReads
+use Rattle.bank.proofs.«damage_of».Reads as damageReads
+use Rattle.salvage.proofs.mend.Reads as mendReads
 use Rattle.runs.proofs.measure.Reads as runReads
 use Rattle.verdict.proofs.judge.Reads as judgeReads
 use Rattle.phs.proofs.start.Reads as startReads
@@ -157,6 +161,15 @@ pub record Tied : Type 0 where
   pub bank-close-asks-nothing : (κs : _) → AsksNothing (closeReads.Pre κs)
   pub bank-close-says : (κs : _) (a : _) (r : _) (s : _) → closeReads.Post κs a r s → Closing (now (a .0)) (a .1 .0) r (now (s .0))
   pub bank-close-unique : (κs : _) → OneOutcome (closeReads.Post κs) (λ s. now (s .0))
+  -- `damage_of`
+  pub bank-damage-of-asks-nothing : (κs : _) → AsksNothing (damageReads.Pre κs)
+  pub bank-damage-of-says : (κs : _) (a : _) (r : _) (s : _) → damageReads.Post κs a r s → r ≡ damageOf (a .0)
+  pub bank-damage-of-unique : (κs : _) → OneAnswer (damageReads.Post κs)
+  -- ---- salvage
+  -- `mend`
+  pub salvage-mend-asks-nothing : (κs : _) → AsksNothing (mendReads.Pre κs)
+  pub salvage-mend-says : (κs : _) (a : _) (r : _) (s : _) → mendReads.Post κs a r s → Mending (now (a .0)) r (now (s .0))
+  pub salvage-mend-unique : (κs : _) → OneOutcome (mendReads.Post κs) (λ s. now (s .0))
   -- ---- runs
   -- `measure`
   pub runs-measure-asks-nothing : (κs : _) → AsksNothing (runReads.Pre κs)

@@ -1,15 +1,17 @@
 -- Damage by the slot's state: over 1, free, open. Assumes nothing.
-use mathlib.Core.Path.{_≡_, refl, _∙_, ap}
-use mathlib.Core.Bool.{Bool, true, false, not, _||_}
+use mathlib.Core.Path.{_≡_, refl, sym, _∙_, ap}
+use mathlib.Core.Bool.{Bool, true, false, cond, not, _&&_, _||_}
 use mathlib.Core.List.{List}
 use Prim.Native.Nat.{ℕ, _<_}
 use lib.Dec.{ltb}
-use borrow.Author.Tests.{lt-ltb, ltb-true}
+use borrow.Author.Tests.{eqb-true, ne-eqb, lt-ltb, ltb-true, not-true}
 use Rattle.feed.specs.declared.Head.{Head}
 use Rattle.sampling.specs.Sampling.{samplingOf}
 use Rattle.feed.specs.Ring.{unserved, uneven, early, faulty}
+use Rattle.bank.specs.declared.damage.Damage.the-variants.{Stray, Other}
 use Rattle.bank.specs.Slot.{stateIn, headIn}
-use Rattle.bank.specs.Damage.{blank, stray, isDamaged}
+use Rattle.bank.specs.Damage.{blank, isOpen, stray, isDamaged, onlyStray, damageOf}
+use Rattle.bank.proofs.Blank.{both-true}
 
 pub or-so : {t : Bool} (u : Bool) → t ≡ true → (t || u) ≡ true
 or-so u e = ap (λ (v : Bool). v || u) e
@@ -25,6 +27,10 @@ or-false : (t : Bool) → (t || false) ≡ t
 or-false true = refl
 or-false false = refl
 
+and-false : (t : Bool) → (t && false) ≡ false
+and-false true = refl
+and-false false = refl
+
 module _ (s : List ℕ) where
   pub over-damaged : 1 < stateIn s → isDamaged s ≡ true
   unfolding isDamaged
@@ -37,6 +43,36 @@ module _ (s : List ℕ) where
   pub open-damaged : stateIn s ≡ 1 → isDamaged s ≡ (faulty (headIn s) || stray s)
   unfolding isDamaged
   open-damaged e = rw e
+
+-- what holds of an open slot that only stray bytes damage
+pub record StrayOnly (s : List ℕ) : Type 0 where
+  pub one : stateIn s ≡ 1
+  pub some : stray s ≡ true
+  pub faultless : faulty (headIn s) ≡ false
+
+pub only-stray : (s : List ℕ) → onlyStray s ≡ true → StrayOnly s
+unfolding onlyStray
+only-stray s e =
+    let h = both-true (isOpen s && stray s) (not (faulty (headIn s))) e in
+    let o = both-true (isOpen s) (stray s) (h .0) in
+    record { one = eqb-true (stateIn s) 1 (o .0); some = o .1; faultless = not-true _ (h .1) }
+
+pub stray-damaged : (s : List ℕ) → onlyStray s ≡ true → isDamaged s ≡ true
+stray-damaged s e = let o = only-stray s e in open-damaged s (o .one) ∙ or-either (faulty (headIn s)) (o .some)
+
+-- a damaged slot, by whether it is open and its numbers are faulty
+module _ (s : List ℕ) (damaged : isDamaged s ≡ true) where
+  pub shut-other : (stateIn s ≡ 1 → ⊥) → damageOf s ≡ Other
+  unfolding damageOf onlyStray
+  shut-other shut = rw (damaged, ne-eqb (stateIn s) 1 shut)
+
+  pub faulty-other : faulty (headIn s) ≡ true → damageOf s ≡ Other
+  unfolding damageOf onlyStray
+  faulty-other e = rw (damaged, e) (ap (λ (t : Bool). cond t Stray Other) (and-false (isOpen s && stray s)))
+
+  pub open-stray : stateIn s ≡ 1 → faulty (headIn s) ≡ false → damageOf s ≡ Stray
+  unfolding damageOf onlyStray
+  open-stray one e = let some = sym (open-damaged s one ∙ or-not (stray s) e) ∙ damaged in rw (damaged, one, some, e)
 
 -- place over 30
 pub place-over : (h : Head) → 30 < h .place → faulty h ≡ true

@@ -1,4 +1,4 @@
--- Each call's contract admits one outcome: two that equal the same are equal, and an answer is found again from what is said of it. Assumes nothing.
+-- Each contract admits one outcome: two that equal the same are equal, and an answer is found again from what is said of it. Assumes nothing.
 use mathlib.Core.Path.{_≡_, refl, sym, ap, _∙_}
 use mathlib.Core.List.{List}
 use Prim.Native.Nat.{ℕ}
@@ -8,6 +8,8 @@ use Rattle.feed.specs.Answers.{Said, refused, done, taken, takenWith, said}
 use Rattle.feed.proofs.Unique.{unsaid, unsaid-said}
 use Rattle.bank.specs.declared.Settled.{Settled}
 use Rattle.bank.specs.declared.Settled.the-variants.{Refused, Done}
+use Rattle.bank.specs.declared.damage.Damage.{Damage}
+use Rattle.bank.specs.Damage.{damageOf}
 use Rattle.bank.specs.Calls.{Outcome, settled, cleared, openedAt, pushedAt, closedAt, Clearing, Opening, Pushing, Closing}
 
 -- the answer of which this is said; only a push answers "taken"
@@ -41,3 +43,6 @@ push-unique bank slot v = one-outcome said unsaid unsaid-said (pushedAt bank slo
 pub close-unique : (bank : List ℕ) (slot : ℕ) (r q : Settled) (s t : List ℕ)
     → Closing bank slot r s → Closing bank slot q t → (r ≡ q) × (s ≡ t)
 close-unique bank slot = one-outcome settled unsettled unsettled-settled (closedAt bank slot)
+
+pub damage-of-unique : (s : List ℕ) (r q : Damage) → r ≡ damageOf s → q ≡ damageOf s → r ≡ q
+damage-of-unique s r q e d = e ∙ sym d

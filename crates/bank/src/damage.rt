@@ -1,11 +1,21 @@
-// Document 01, "The bank": when a slot is damaged.
+// Document 01, "The bank", with CR 3: when a slot is damaged, and when only by stray bytes.
 use crate::slot::read_head;
 ghost use mathlib.Core.Path.{_≡_};
 ghost use mathlib.Core.Bool.{cond};
 ghost use Prim.Native.Nat.{_+_, _*_, _≤_};
 ghost use lib.Dec.{ltb};
 ghost use lib.ListN.{length};
-ghost use Rattle.bank.specs.Damage.{blank, stray, isDamaged};
+ghost use Rattle.bank.specs.Damage.{blank, stray, isDamaged, damageOf};
+
+// How a slot is damaged.
+pub enum Damage {
+    // not at all
+    None,
+    // open, and only by nonzero bytes in unfilled places or after byte 196
+    Stray,
+    // otherwise
+    Other,
+}
 
 // Whether every byte is zero. There is no early end, so that many bytes are tested at once.
 pub(crate) fn is_blank(s: &[u8]) -> bool
@@ -58,4 +68,22 @@ pub(crate) fn is_damaged(s: &[u8]) -> bool
         return true;
     }
     is_stray(s)
+}
+
+// How the 256 bytes of a slot are damaged.
+pub fn damage_of(slot: [u8; 256]) -> Damage
+    ensures { λ r. ⌜ r ≡ damageOf slot ⌝ }
+{
+    if !is_damaged(&slot) {
+        return Damage::None;
+    }
+    if slot[0] != 1 {
+        return Damage::Other;
+    }
+    let head = read_head(&slot);
+    if head.is_faulty() {
+        Damage::Other
+    } else {
+        Damage::Stray
+    }
 }

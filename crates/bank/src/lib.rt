@@ -6,6 +6,8 @@ mod pushing;
 mod slot;
 
 use closing::close_slot;
+pub use damage::Damage;
+pub use damage::damage_of;
 use feed::Answer;
 use model::Sample;
 use opening::open_slot;

@@ -1,0 +1,121 @@
+-- The promises of salvage hold: each slot of a mended image is what the rule makes of that slot, and so is what is said of it. Assumes nothing.
+use mathlib.Core.Path.{_≡_, refl, sym, ap, _∙_, subst}
+use mathlib.Core.Bool.{Bool, true, false, not, cond}
+use mathlib.Core.List.{List, flatten}
+use Prim.Native.Nat.{ℕ, _≤_}
+use native.Mathlib.Omega.{arith}
+use lib.Dec.{eqb}
+use lib.ListN.{length, getD-replicate}
+use borrow.Author.Tests.{eqb-true, eq-eqb, not-false}
+use Rattle.bank.specs.Slot.{slotAt}
+use Rattle.bank.specs.Damage.{isDamaged, onlyStray}
+use Rattle.bank.proofs.Lent.{pass}
+use Rattle.bank.proofs.Slots.{slot-length}
+use Rattle.salvage.specs.declared.Fate.{Fate}
+use Rattle.salvage.specs.declared.Fate.the-variants.{Sound}
+use Rattle.salvage.specs.declared.Ending.the-variants.{Mended}
+use Rattle.salvage.specs.declared.MendedSlot.{MendedSlot}
+use Rattle.salvage.specs.Slots.{fateOf, trimmed, leftBy, mendedSlot, differing, told}
+use Rattle.salvage.specs.Image.{eachSlot, refused, mended, ended, said, allSound, Outcome, refusing, salvaged}
+use Rattle.salvage.proofs.Fates.{stays, trims, closes, stray-held}
+use Rattle.salvage.proofs.Trims.{numbers-stay, filled-stay, unfilled-zero, tail-zero}
+use Rattle.salvage.proofs.Copies.{differing-most}
+use Rattle.salvage.proofs.Slots.{left-by, sound-stays, sound-told, mended-sound}
+use Rattle.salvage.proofs.Images.{mended-whole, mended-at, is-mended, said-at, is-each}
+use Rattle.acceptance.specs.Salvage.{Mends, saidAt, OfEachSlot, SetToZero, Salvage}
+
+-- what the rule gives for an image of 4096 bytes
+abbrev granted : List ℕ → Outcome
+granted image = record { answer = record { ending = Mended; slots = eachSlot told image 0 16 }; image = flatten (eachSlot mendedSlot image 0 16) }
+
+-- slot by slot
+record Slotwise (image : List ℕ) (slots : List MendedSlot) (after : List ℕ) : Type 0 where
+  whole : length image ≡ 4096
+  whole-after : length after ≡ 4096
+  leaves : (k : ℕ) → k ≤ 15 → slotAt after k ≡ mendedSlot (slotAt image k)
+  tells : (k : ℕ) → k ≤ 15 → saidAt slots k ≡ told (slotAt image k)
+
+slotwise : {image after : List ℕ} {slots : List MendedSlot} → Mends image slots after → Slotwise image slots after
+unfolding salvaged
+slotwise {image} {after} {slots} m = go (not (eqb (length image) 4096)) refl (m .promised)
+  where
+    go : (t : Bool) → not (eqb (length image) 4096) ≡ t → record { answer = m .answer; image = after } ≡ cond t (refusing image 1) (granted image)
+        → Slotwise image slots after
+    go true p e =
+        absurd (let other : refused 1 ≡ mended slots = sym (ap (λ (o : Outcome). said (o .answer)) e) ∙ m .says in let z : _≡_ {A = ℕ} 0 1 = cc in omega arith)
+    go false p e =
+        let whole = eqb-true (length image) 4096 (not-false _ p) in
+        let bytes : after ≡ flatten (eachSlot mendedSlot image 0 16) = ap (λ (o : Outcome). o .image) e in
+        let same : mended (eachSlot told image 0 16) ≡ mended slots = sym (ap (λ (o : Outcome). said (o .answer)) e) ∙ m .says in
+        let each : eachSlot told image 0 16 ≡ slots = cc in
+        record {
+          whole = whole;
+          whole-after = ap length bytes ∙ mended-whole image whole;
+          leaves = λ k h. ap (λ (b : List ℕ). slotAt b k) bytes ∙ mended-at image whole k h;
+          tells = λ k h. ap (λ (l : List MendedSlot). saidAt l k) (sym each) ∙ said-at told image _ k h;
+        }
+
+-- what is left of a slot of a fate, and that fate is said
+fated : {image after : List ℕ} {slots : List MendedSlot} {fate : Fate} → Mends image slots after → (k : ℕ) → k ≤ 15 → fateOf (slotAt image k) ≡ fate
+    → (slotAt after k ≡ leftBy fate (slotAt image k)) × (saidAt slots k .fate ≡ fate)
+unfolding told
+fated {image} m k h e =
+    let w = slotwise m in
+    (w .leaves k h ∙ left-by (slotAt image k) e, ap (λ (s : MendedSlot). s .fate) (w .tells k h) ∙ e)
+
+none-damaged : OfEachSlot (λ before told after. isDamaged after ≡ false)
+none-damaged image slots after m k h =
+    let w = slotwise m in
+    ap isDamaged (w .leaves k h) ∙ mended-sound (slotAt image k) (slot-length image k (w .whole) h)
+
+trimmed-so : (s : List ℕ) → length s ≡ 256 → onlyStray s ≡ true → SetToZero s (trimmed s)
+trimmed-so s size e =
+    let held = stray-held s e in
+    record {
+      numbers = numbers-stay s size held;
+      filled = filled-stay s size held;
+      unfilled = unfilled-zero s size held;
+      after-196 = tail-zero s size held;
+    }
+
+-- an image with no damaged slot is mended into itself, and each slot is said to be sound
+module _ (image : List ℕ) (whole : length image ≡ 4096) (sound : (k : ℕ) → k ≤ 15 → isDamaged (slotAt image k) ≡ false) where
+  stays-so : flatten (eachSlot mendedSlot image 0 16) ≡ image
+  stays-so = sym (is-mended image whole image whole (λ k h. sym (sound-stays (slotAt image k) (sound k h))))
+
+  said-sound : eachSlot told image 0 16 ≡ allSound
+  said-sound =
+      sym (is-each told image (record { fate = Sound; differing = 0 }) allSound refl
+      (λ k h. getD-replicate 16 k _ _ (omega arith) ∙ sym (sound-told (slotAt image k) (sound k h))))
+
+pub salvage-holds : Salvage
+unfolding leftBy told salvaged
+salvage-holds = record {
+  whole-mended = λ image r after whole p.
+      let e = p ∙ pass _ (granted image) (ap not (eq-eqb _ _ whole)) in
+      record { answer = r; promised = p; says = λ i. ended (e i .answer .ending) (r .slots) };
+  stray-trimmed = λ image slots after m k h e.
+      let s = slotAt image k in
+      let f = fated m k h (trims s e) in
+      (subst (λ (t : List ℕ). SetToZero s t) (sym (f .0)) (trimmed-so s (slot-length image k (slotwise m .whole) h) e), f .1);
+  others-closed = λ image slots after m k h d e. fated m k h (closes (slotAt image k) d e);
+  sound-stay = λ image slots after m k h e. fated m k h (stays (slotAt image k) e);
+  counts = λ image slots after m k h.
+      let w = slotwise m in
+      let s = slotAt image k in
+      let count = ap (λ (t : MendedSlot). t .differing) (w .tells k h) in (
+        count ∙ ap (λ (t : List ℕ). differing s t) (sym (w .leaves k h)),
+        omega (arith, count, differing-most s (mendedSlot s), slot-length image k (w .whole) h),
+      );
+  by-itself = λ other others last n j l image slots after m k h e.
+      let w = slotwise m in
+      let v = slotwise n in
+      (w .leaves k h ∙ ap mendedSlot e ∙ sym (v .leaves j l), w .tells k h ∙ ap told e ∙ sym (v .tells j l));
+  none-damaged = none-damaged;
+  again = λ image slots after m r last p.
+      let whole = slotwise m .whole-after in
+      let e = p ∙ pass _ (granted after) (ap not (eq-eqb _ _ whole)) in (
+        ap (λ (o : Outcome). o .image) e ∙ stays-so after whole (none-damaged image slots after m),
+        ap (λ (o : Outcome). said (o .answer)) e ∙ ap mended (said-sound after whole (none-damaged image slots after m)),
+      );
+}

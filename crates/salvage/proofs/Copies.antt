@@ -1,0 +1,40 @@
+-- Bytes copied over others, and how many bytes differ. Assumes nothing.
+use mathlib.Core.Path.{_≡_, refl}
+use mathlib.Core.Bool.{Bool, true, false, cond}
+use mathlib.Core.List.{List, [], _∷_, _++_, append-nil}
+use Prim.Native.Nat.{ℕ, suc, _+_, _≤_, _<_}
+use native.Mathlib.Omega.{arith}
+use native.Mathlib.Nat.{le-of-eq}
+use native.Mathlib.Numerals.{add-one}
+use lib.Dec.{eqb}
+use lib.ListN.{length, getD, take, drop, drop-of-length-le}
+use lib.Seq.{take-length, drop-cons}
+use borrow.Author.Tests.{eq-eqb}
+use Rattle.salvage.specs.Slots.{differing}
+
+-- all of one list over another that is as long is that list
+pub all-over : (from to : List ℕ) → length to ≡ length from → take (length from) from ++ drop (length from) to ≡ from
+all-over from to e = rw (take-length from, drop-of-length-le to (le-of-eq e)) (append-nil from)
+
+-- nothing differs from itself
+pub differing-none : (s : List ℕ) → differing s s ≡ 0
+unfolding differing
+differing-none [] = refl
+differing-none (b ∷ s) = rw (eq-eqb b b refl, differing-none s)
+
+-- no more differ than there are
+pub differing-most : (before after : List ℕ) → differing before after ≤ length before
+unfolding differing
+differing-most [] after = omega arith
+differing-most (b ∷ before) [] = omega arith
+differing-most (b ∷ before) (a ∷ after) = go (eqb b a) (differing-most before after)
+  where
+    go : (t : Bool) → differing before after ≤ length before → cond t 0 1 + differing before after ≤ suc (length before)
+    go true h = omega arith
+    go false h = omega arith
+
+-- what differs from byte i on: that byte, and what differs after it
+pub differing-more : (before after : List ℕ) (i : ℕ) → i < length before → i < length after
+    → differing (drop i before) (drop i after) ≡ cond (eqb (getD before i 0) (getD after i 0)) 0 1 + differing (drop (i + 1) before) (drop (i + 1) after)
+unfolding differing
+differing-more before after i h k = rw (drop-cons before i 0 h, drop-cons after i 0 k, add-one i)

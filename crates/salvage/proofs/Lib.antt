@@ -1,0 +1,8 @@
+-- The laws of `salvage`.
+pub mod Fates
+pub mod Trims
+pub mod Copies
+pub mod Slots
+pub mod Images
+pub mod Turns
+pub mod Unique

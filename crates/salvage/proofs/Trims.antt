@@ -1,0 +1,125 @@
+-- A trimmed slot: zeros after the filled places. Its numbers are as they were, and no byte is stray. Assumes nothing.
+use mathlib.Core.Path.{_≡_, sym, _∙_, ap}
+use mathlib.Core.Bool.{true, false}
+use mathlib.Core.List.{List, _++_}
+use Prim.Native.Nat.{ℕ, _+_, _-_, _*_, _≤_, _<_}
+use native.Mathlib.Omega.{arith}
+use lib.ListN.{length, getD, take, drop, length-append, length-replicate, replicate-append-replicate, List·getD-append}
+use lib.Seq.{take-at, drop-at, take-length, take-append-le, take-take, getD-take, drop-drop, length-take-le}
+use Rattle.feed.specs.Places.{zeros}
+use Rattle.feed.specs.Ring.{faulty}
+use Rattle.bank.specs.Slot.{stateIn, headIn, placesIn, tailIn, freeSlot}
+use Rattle.bank.specs.Damage.{stray, isDamaged, onlyStray}
+use Rattle.bank.proofs.Blank.{zeros-blank}
+use Rattle.bank.proofs.Slots.{drop-take}
+use Rattle.bank.proofs.States.{only-stray, or-not, open-damaged}
+use Rattle.salvage.specs.Slots.{filledTo, trimmed}
+use Rattle.salvage.proofs.Fates.{stray-held}
+
+-- ---- zeros in two parts
+
+zeros-length : (n : ℕ) → length (zeros n) ≡ n
+unfolding zeros
+zeros-length n = length-replicate {A = ℕ} n 0
+
+zeros-parts : (n m k : ℕ) → n + m ≡ k → zeros k ≡ zeros n ++ zeros m
+unfolding zeros
+zeros-parts n m k e = sym (replicate-append-replicate n m 0 ∙ ap zeros e)
+
+zeros-front : (n m k : ℕ) → n + m ≡ k → take n (zeros k) ≡ zeros n
+zeros-front n m k e = ap (λ (l : List ℕ). take n l) (zeros-parts n m k e) ∙ take-at (zeros n) (zeros m) n (zeros-length n)
+
+zeros-rest : (n m k : ℕ) → n + m ≡ k → drop n (zeros k) ≡ zeros m
+zeros-rest n m k e = ap (λ (l : List ℕ). drop n l) (zeros-parts n m k e) ∙ drop-at (zeros n) (zeros m) n (zeros-length n)
+
+-- bytes copied over a free slot stand before zeros
+pub over-free : (l f : List ℕ) (n : ℕ) → length l ≡ n → n ≤ 256 → f ≡ freeSlot → take (length l) l ++ drop (length l) f ≡ l ++ zeros (256 - n)
+unfolding freeSlot
+over-free l f n size h e = rw (take-length l, size, e, zeros-rest n (256 - n) 256 (omega arith))
+
+-- ---- a trimmed slot
+
+module _ (s : List ℕ) (size : length s ≡ 256) (held : headIn s .held ≤ 31) where
+  abbrev kept : ℕ
+  kept = filledTo s
+
+  front : length (take kept s) ≡ kept
+  front = length-take-le kept s (omega (arith, held))
+
+  pub trimmed-length : length (trimmed s) ≡ 256
+  unfolding trimmed
+  trimmed-length = length-append (take kept s) (zeros (256 - kept)) ∙ omega (arith, front, zeros-length (256 - kept), held)
+
+  low : (i : ℕ) → i < 11 → getD (trimmed s) i 0 ≡ getD s i 0
+  unfolding trimmed
+  low i h =
+      List·getD-append (take kept s) (zeros (256 - kept)) 0 i (omega (arith, front))
+      ∙ getD-take kept s i 0 (omega arith)
+
+  same-head : headIn (trimmed s) ≡ headIn s
+  unfolding headIn
+  same-head =
+      rw (
+        low 1 (omega arith),
+        low 2 (omega arith),
+        low 3 (omega arith),
+        low 4 (omega arith),
+        low 5 (omega arith),
+        low 6 (omega arith),
+        low 7 (omega arith),
+        low 8 (omega arith),
+        low 9 (omega arith),
+        low 10 (omega arith),
+      )
+
+  rest : drop kept (trimmed s) ≡ zeros (256 - kept)
+  unfolding trimmed
+  rest = drop-at (take kept s) (zeros (256 - kept)) kept front
+
+  pub numbers-stay : take 11 (trimmed s) ≡ take 11 s
+  unfolding trimmed
+  numbers-stay =
+      take-append-le 11 (take kept s) (zeros (256 - kept)) (omega (arith, front))
+      ∙ take-take 11 kept s (omega arith)
+
+  pub filled-stay : take (6 * headIn s .held) (placesIn (trimmed s)) ≡ take (6 * headIn s .held) (placesIn s)
+  unfolding placesIn trimmed
+  filled-stay =
+      let h : ℕ = 6 * headIn s .held in
+      let first : (l : List ℕ) → take h (take 186 (drop 11 l)) ≡ drop 11 (take kept l) =
+      λ l. take-take h 186 (drop 11 l) (omega (arith, held)) ∙ sym (drop-take 11 h l) in
+      first (trimmed s)
+      ∙ ap (λ (l : List ℕ). drop 11 l) (take-at (take kept s) (zeros (256 - kept)) kept front)
+      ∙ sym (first s)
+
+  pub unfilled-zero : drop (6 * headIn s .held) (placesIn (trimmed s)) ≡ zeros (186 - 6 * headIn s .held)
+  unfolding placesIn
+  unfilled-zero =
+      let h : ℕ = 6 * headIn s .held in
+      let t : List ℕ = trimmed s in
+      ap (λ (n : ℕ). drop h (take n (drop 11 t))) (let e : 186 ≡ h + (186 - h) = omega (arith, held) in e)
+      ∙ drop-take h (186 - h) (drop 11 t)
+      ∙ ap (λ (l : List ℕ). take (186 - h) l) (drop-drop h 11 t ∙ rest)
+      ∙ zeros-front (186 - h) 59 (256 - kept) (omega (arith, held))
+
+  pub tail-zero : tailIn (trimmed s) ≡ zeros 59
+  unfolding tailIn
+  tail-zero =
+      let h : ℕ = 6 * headIn s .held in
+      let t : List ℕ = trimmed s in
+      ap (λ (n : ℕ). drop n t) (let e : 197 ≡ kept + (186 - h) = omega (arith, held) in e)
+      ∙ sym (drop-drop (186 - h) kept t)
+      ∙ ap (λ (l : List ℕ). drop (186 - h) l) rest
+      ∙ zeros-rest (186 - h) 59 (256 - kept) (omega (arith, held))
+
+  none-stray : stray (trimmed s) ≡ false
+  unfolding stray
+  none-stray = rw (same-head, unfilled-zero, tail-zero, zeros-blank (186 - 6 * headIn s .held), zeros-blank 59)
+
+pub trimmed-sound : (s : List ℕ) → length s ≡ 256 → onlyStray s ≡ true → isDamaged (trimmed s) ≡ false
+trimmed-sound s size e =
+    let held = stray-held s e in
+    let one : stateIn (trimmed s) ≡ 1 = low s size held 0 (omega arith) ∙ only-stray s e .one in
+    open-damaged (trimmed s) one
+    ∙ or-not _ (ap faulty (same-head s size held) ∙ only-stray s e .faultless)
+    ∙ none-stray s size held

@@ -1,0 +1,3 @@
+-- The definitions of `salvage`.
+pub mod Slots
+pub mod Image
