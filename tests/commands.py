@@ -1,4 +1,4 @@
-"""The command line of the tests: programs run on bytes, and their lines compared."""
+"""The command line of the tests: programs run on bytes, and what they write compared."""
 
 import inspect
 import shlex
@@ -12,6 +12,18 @@ def printed_by(program, data):
     """The lines that a program prints for the bytes on its standard input."""
     run = subprocess.run(shlex.split(program), input=data, stdout=subprocess.PIPE)
     return run.stdout.decode("ascii", "replace").splitlines()
+
+
+def feed(program, data, size, output, errors=None):
+    """Runs a program whose input comes through a pipe in pieces of a size; what it writes goes to files."""
+    run = subprocess.Popen(shlex.split(program), stdin=subprocess.PIPE, stdout=output, stderr=errors, bufsize=0)
+    try:
+        for at in range(0, len(data), size):
+            run.stdin.write(data[at:at + size])
+    except BrokenPipeError:
+        pass  # a program that has refused need not read on
+    run.stdin.close()
+    run.wait()
 
 
 def compared(expected, printed, things):
@@ -29,6 +41,21 @@ def compared(expected, printed, things):
 def compared_on(program, data, expected, things):
     """Runs a program on bytes and compares the lines that it prints: 0 if all agree, else 1."""
     return compared(expected, printed_by(program, data), things)
+
+
+def tallied(outcomes, saying):
+    """Shows the first few that fail and says how many do not: 0 if none fails, else 1. An outcome is whether it holds,
+    and what is shown where it does not."""
+    tried = 0
+    failing = 0
+    for holds, shown in outcomes:
+        tried += 1
+        if not holds:
+            failing += 1
+            if failing <= SHOWN:
+                print(shown)
+    print(saying % (tried - failing, tried))
+    return 0 if failing == 0 else 1
 
 
 def dispatch(usage, *commands):

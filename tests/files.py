@@ -9,12 +9,10 @@ stored DIR LISTINGS           writes the files that the gate runs `listings` on,
 
 import os
 import random
-import shlex
 import struct
-import subprocess
 import tempfile
 
-from commands import SHOWN, dispatch
+from commands import dispatch, feed, tallied
 from inputs import any_sample, any_wave, opening_pairs, sample_at, steady_wave
 from reference import (
     HEADER_BYTES, LAST_SOC, SAMPLE_BYTES, SERVED, VERSIONS, cos, kept_rate, listing, passed_rate, sampling)
@@ -357,14 +355,7 @@ def stored(directory, listings_name):
 def printed_by(program, data, size):
     """What the program prints when the bytes come through a pipe in pieces of a size."""
     with tempfile.TemporaryFile() as output:
-        run = subprocess.Popen(shlex.split(program), stdin=subprocess.PIPE, stdout=output, bufsize=0)
-        try:
-            for at in range(0, len(data), size):
-                run.stdin.write(data[at:at + size])
-        except BrokenPipeError:
-            pass  # a program that has refused need not read on
-        run.stdin.close()
-        run.wait()
+        feed(program, data, size, output)
         output.seek(0)
         return output.read()
 
@@ -374,21 +365,18 @@ def with_listings(named_files):
     return [(name, data, listing(data)) for name, data in named_files.items()]
 
 
-def compared_in_pieces(program, listed):
-    """Feeds files to the program in pieces; 0 if it prints each one's listing, else 1."""
-    tried = 0
-    differing = 0
+def in_pieces(program, listed):
+    """Whether the program prints each file's listing, for pieces of each size, and what to show where it does not."""
     for name, data, expected in listed:
         for size in PIECES:
             printed = printed_by(program, data, size or max(1, len(data)))
-            tried += 1
-            if printed != expected:
-                differing += 1
-                if differing <= SHOWN:
-                    print("file %s in pieces of %s\n  expected %r\n  printed  %r"
-                          % (name, size or "any size", expected[-200:], printed[-200:]))
-    print("%d of %d listings agree" % (tried - differing, tried))
-    return 0 if differing == 0 else 1
+            yield printed == expected, ("file %s in pieces of %s\n  expected %r\n  printed  %r"
+                                        % (name, size or "any size", expected[-200:], printed[-200:]))
+
+
+def compared_in_pieces(program, listed):
+    """Feeds files to the program in pieces; 0 if it prints each one's listing, else 1."""
+    return tallied(in_pieces(program, listed), "%d of %d listings agree")
 
 
 def compare(program, seed=1, count=320):

@@ -1,6 +1,6 @@
 """The lines that the replay program prints for answers."""
 
-from reference import DONE, LEFT_OUT, Figures, Refused, Taken, Verdict, bits, tag_and_whole_numbers
+from reference import DONE, LEFT_OUT, Figures, Mended, Refused, Taken, Verdict, bits, tag_and_whole_numbers
 
 
 def floats_part(figures):
@@ -20,6 +20,11 @@ def report_line(report):
     return "report %s %s" % (tag_and_whole_numbers(report), floats_part(report.figures))
 
 
+def mended_line(fates):
+    """mended, and for each slot its word and its count."""
+    return "mended " + " ".join("%s/%d" % fate for fate in fates)
+
+
 def answer_line(answer):
     """The line of any answer of the model."""
     if answer in (DONE, LEFT_OUT):
@@ -30,5 +35,7 @@ def answer_line(answer):
         return figures_line(answer)
     if isinstance(answer, Taken):
         return report_line(answer.report) if answer.report else "taken"
+    if isinstance(answer, Mended):
+        return mended_line(answer.fates)
     assert isinstance(answer, Verdict)
     return "verdict %d %d %d" % answer

@@ -7,7 +7,6 @@ from inputs import any_sample
 from reference import BANK_BYTES, PLACES, SLOT_BYTES, Feed, slot_of
 from replay import ARGUMENTS, new_memory, replay
 
-SLOTS = range(16)
 LENGTHS = (0, 1, 255, 256, 4095, 4096, 4097, 8191, 8192, 8193, 65535)
 
 
@@ -51,6 +50,10 @@ class Maker:
     def close(self, slot, length=BANK_BYTES):
         """A closing."""
         self.add(record(b"X", length, slot))
+
+    def mend(self, length=BANK_BYTES):
+        """A salvage."""
+        self.add(record(b"M", length))
 
     def set(self, at, value):
         """A byte set."""

@@ -1,5 +1,5 @@
-"""The class P model of document 01, with CR 1 and CR 2 of document 02, in the order of 01's sections, in exact whole
-numbers."""
+"""The class P model of document 01, with CR 1, CR 2 and CR 3 of document 02, in the order of 01's sections, in exact
+whole numbers."""
 
 import math
 import struct
@@ -217,15 +217,31 @@ def whole_run(a, b, c, centre, nominal):
 
 BANK_BYTES = 4096
 SLOT_BYTES = 256
+SLOTS = range(16)
 PLACES = 31
 FIRST_PLACE = 11
 AFTER_PLACES = 197
 DONE = "done"
+SOUND, TRIMMED, CLOSED = "sound", "trimmed", "closed"
+# the two clauses of damage by which a slot is trimmed
+STRAY_IN_PLACES = "a nonzero byte in an unfilled place"
+STRAY_AFTER_PLACES = "a nonzero byte after byte 196"
 
 
 class Taken(NamedTuple):
     """A push that is not refused, with the report if one is due."""
     report: Optional[Report]
+
+
+class Fate(NamedTuple):
+    """Whether a slot is sound, trimmed or closed, and how many of its bytes differ from before."""
+    word: str
+    count: int
+
+
+class Mended(NamedTuple):
+    """A salvage that is not refused: the fate of each slot, in the order of the slots."""
+    fates: tuple
 
 
 class Feed(NamedTuple):
@@ -254,6 +270,11 @@ def slot_of(feed):
     return (head + places).ljust(SLOT_BYTES, b"\0")
 
 
+def unfilled_from(feed):
+    """The byte of a slot at which its unfilled places begin, which is 197 with 31 held."""
+    return FIRST_PLACE + 6 * feed.held
+
+
 def damage(slot):
     """The clauses of damage that the 256 bytes of a slot meet, in the document's words."""
     state = slot[0]
@@ -263,7 +284,6 @@ def damage(slot):
         return ["free with a nonzero byte"] if any(slot) else []
     feed = feed_of(slot)
     served = feed.nominal in SERVED
-    unfilled = slot[FIRST_PLACE + 6 * feed.held:AFTER_PLACES]
     clauses = {
         "unserved nominal or rate":
             not served or feed.rate not in SERVED[feed.nominal],
@@ -277,9 +297,9 @@ def damage(slot):
             feed.held < 31 and (feed.place != feed.held or feed.index != feed.held),
         "31 held with SOC 0 and index under 31":
             feed.held == 31 and feed.soc == 0 and feed.index < 31,
-        "a nonzero byte in an unfilled place":
-            any(unfilled),
-        "a nonzero byte after byte 196":
+        STRAY_IN_PLACES:
+            any(slot[unfilled_from(feed):AFTER_PLACES]),
+        STRAY_AFTER_PLACES:
             any(slot[AFTER_PLACES:]),
     }
     return [clause for clause, met in clauses.items() if met]
@@ -401,6 +421,34 @@ def close(bank, slot):
         return Refused(5)
     put_slot(bank, slot, bytes(SLOT_BYTES))
     return DONE
+
+
+def mended(slot):
+    """CR 3: the word for the 256 bytes of a slot, and the bytes that it is mended to."""
+    clauses = set(damage(slot))
+    if not clauses:
+        return SOUND, slot
+    if clauses <= {STRAY_IN_PLACES, STRAY_AFTER_PLACES}:
+        return TRIMMED, slot[:unfilled_from(feed_of(slot))].ljust(SLOT_BYTES, b"\0")
+    return CLOSED, bytes(SLOT_BYTES)
+
+
+def differing_bytes(before, after):
+    """How many bytes differ from before."""
+    return sum(old != new for old, new in zip(before, after))
+
+
+def salvage(bank):
+    """CR 3: an image is mended slot by slot: refused 1."""
+    if len(bank) != BANK_BYTES:
+        return Refused(1)
+    fates = []
+    for slot in SLOTS:
+        before = slot_bytes(bank, slot)
+        word, after = mended(before)
+        put_slot(bank, slot, after)
+        fates.append(Fate(word, differing_bytes(before, after)))
+    return Mended(tuple(fates))
 
 
 # ---------------------------------------------------------------------------

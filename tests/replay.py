@@ -8,7 +8,7 @@ import sys
 
 from lines import answer_line
 from reference import (
-    Device, Reference, clear, close, judge, open_feed, push, slot_bytes, whole_run)
+    Device, Reference, clear, close, judge, open_feed, push, salvage, slot_bytes, whole_run)
 
 MEMORY_BYTES = 8192
 SLOTS_SHOWN = 32
@@ -19,6 +19,7 @@ ARGUMENTS = {
     b"O": ">HBBBI",
     b"P": ">HBhhh",
     b"X": ">HB",
+    b"M": ">H",
     b"S": ">HB",
     b"D": ">B",
     b"W": ">BIBBB",
@@ -105,7 +106,7 @@ def answer(script, memory):
     if letter == b"J":
         return verdict(*arguments)
     length, *rest = arguments
-    call = {b"C": clear, b"O": open_feed, b"P": push, b"X": close}[letter]
+    call = {b"C": clear, b"O": open_feed, b"P": push, b"X": close, b"M": salvage}[letter]
     return on_bank(memory, length, call, *rest)
 
 

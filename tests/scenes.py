@@ -1,13 +1,13 @@
-"""The scenes of a replay script that reach every edge of document 01, of CR 1 and of CR 2."""
+"""The scenes of a replay script that reach every edge of document 01, of CR 1, of CR 2 and of CR 3."""
 
 import itertools
 import math
 
 from inputs import HIGH, LOW, any_run, any_sample, any_wave, opening_pairs, served_pairs
-from maker import FREE, LENGTHS, SLOTS, any_samples, edited, held_slot
+from maker import FREE, LENGTHS, any_samples, edited, held_slot
 from reference import (
-    AFTER_PLACES, BANK_BYTES, FIRST_PLACE, LAST_SOC, LIMITS, PLACES, SERVED, SLOT_BYTES, cos, damage,
-    frame_spacing, kept_rate, sampling)
+    AFTER_PLACES, BANK_BYTES, CLOSED, FIRST_PLACE, LAST_SOC, LIMITS, PLACES, SERVED, SLOT_BYTES, SLOTS, SOUND, TRIMMED,
+    cos, damage, frame_spacing, kept_rate, mended, sampling, slot_bytes)
 from replay import MEMORY_BYTES
 from windows import windows
 
@@ -291,6 +291,123 @@ def one_damaged_of_sixteen(maker):
 
 
 # ---------------------------------------------------------------------------
+# Salvage (CR 3)
+
+def mend_shown(maker, *slots):
+    """The slots shown before and after a salvage, and a second salvage."""
+    maker.show(*slots)
+    maker.mend()
+    maker.show(*slots)
+    maker.mend()
+
+
+def salvage_lengths(maker):
+    """Images of each length, with damage in the first slot, the last and one between, and bytes beyond the image."""
+    maker.open(0)
+    maker.open(15, 50, 25)
+    for length in LENGTHS:
+        maker.set(SLOT_BYTES - 1, 1)
+        maker.set(7 * SLOT_BYTES, 2)
+        maker.set(BANK_BYTES - 1, 1)
+        maker.mend(length)
+        maker.show(0, 7, 15, 16, 31)
+    maker.clear()
+
+
+def one_mended_of_sixteen(maker):
+    """One slot trimmed, each in turn, with 0 to 14 and 31 held, after which it goes on; then each closed in turn."""
+    for slot in SLOTS:
+        nominal = maker.rng.choice((50, 60))
+        held = 31 if slot == 15 else slot
+        maker.open(slot, nominal, nominal)
+        for _ in range(held):
+            maker.push(slot)
+        maker.set(SLOT_BYTES * slot + FIRST_PLACE + 6 * held, 1)
+        maker.push(slot)
+        mend_shown(maker, slot)
+    for slot in (0, 14, 15):
+        for _ in range(17):
+            maker.push(slot)
+    for slot in SLOTS:
+        maker.set(SLOT_BYTES * slot + 1, 51)
+        mend_shown(maker, slot)
+        maker.push(slot)
+        maker.open(slot)
+        maker.push(slot)
+    maker.clear()
+
+
+# of a slot that holds 31: its nominal and SOC, a byte, and the bytes from there on that are sound and that are damaged
+EDGES_OF_31 = (
+    (60, 1000, 8, divmod(899, 256), divmod(900, 256)),
+    (50, 1000, 8, divmod(749, 256), divmod(750, 256)),
+    (60, 0, 9, [31], [30]),
+    (60, 1000, 3, [31], [32]),
+    (50, 1000, 3, [31], [255]),
+    (60, 1000, 10, [30], [31]),
+    (50, 1000, 2, [50], [0]),
+    (60, 1000, 1, [60], [61]),
+)
+
+
+def salvage_of_31(maker):
+    """Both sides of the edges of slots that hold 31, first with a byte after byte 196."""
+    slots = range(5, 5 + len(EDGES_OF_31))
+    for slot, (nominal, soc, at, sound, _) in zip(slots, EDGES_OF_31):
+        maker.open(slot, nominal, nominal, soc)
+        for _ in range(PLACES):
+            maker.push(slot)
+        maker.lay(slot, edited(slot_bytes(maker.memory, slot), at, *sound))
+        maker.set(SLOT_BYTES * slot + maker.rng.randrange(AFTER_PLACES, SLOT_BYTES), 1)
+    mend_shown(maker, *slots)
+    for slot, (_, _, at, _, damaged) in zip(slots, EDGES_OF_31):
+        maker.lay(slot, edited(slot_bytes(maker.memory, slot), at, *damaged))
+    mend_shown(maker, *slots)
+
+
+def salvage_cases(samples):
+    """Slots of few samples at both sides of each edge, and the word for each."""
+    none, one = held_slot(samples, held=0), held_slot(samples, held=1)
+    unfilled = FIRST_PLACE + 6
+    for content in (FREE, none, one, held_slot(samples, 50, 25, held=2), edited(one, unfilled - 1, 255)):
+        yield content, SOUND
+    for at in (FIRST_PLACE, AFTER_PLACES - 1, AFTER_PLACES, SLOT_BYTES - 1):
+        yield edited(none, at, 1), TRIMMED
+    for at, *values in ((unfilled, 255), (unfilled - 1, 9, 9), (AFTER_PLACES - 2, 1, 2, 3, 4), (AFTER_PLACES, 5, 0, 5)):
+        yield edited(one, at, *values), TRIMMED
+    yield edited(none, AFTER_PLACES, *range(1, SLOT_BYTES - AFTER_PLACES + 1)), TRIMMED
+    for at in (1, 3, FIRST_PLACE, AFTER_PLACES - 1, AFTER_PLACES, SLOT_BYTES - 1):
+        yield edited(FREE, at, 1), CLOSED
+    for state in (2, 128, 255):
+        yield edited(FREE, 0, state), CLOSED
+        yield edited(one, 0, state), CLOSED
+    yield edited(one, 0, 0), CLOSED
+    for nominal in (0, 49, 51, 59, 61):
+        yield edited(none, 1, nominal), CLOSED
+    for rate in (0, 11, 50):
+        yield edited(none, 2, rate), CLOSED
+    for at, *values in ((3, 0), (3, 2), (3, 32), (3, 255), (8, 1), (9, 0), (9, 2), (10, 0), (10, 2), (10, 31),
+                        (9, 2, 2)):
+        faulty = edited(one, at, *values)
+        yield faulty, CLOSED
+        yield edited(faulty, SLOT_BYTES - 1, 1), CLOSED
+    yield edited(edited(one, 2, 0), unfilled, 1), CLOSED
+    yield bytes([1]) * SLOT_BYTES, CLOSED
+
+
+def salvage_side_by_side(maker):
+    """Slots of each word beside each other, sixteen at a time."""
+    cases = list(salvage_cases(any_samples(maker.rng)))
+    maker.rng.shuffle(cases)
+    for at in range(0, len(cases), len(SLOTS)):
+        for slot, (content, word) in zip(SLOTS, cases[at:]):
+            assert mended(content)[0] == word
+            maker.lay(slot, content)
+        mend_shown(maker, *SLOTS)
+    maker.clear()
+
+
+# ---------------------------------------------------------------------------
 # Reports
 
 def reports(maker):
@@ -461,5 +578,6 @@ def verdict_extremes(maker):
 
 
 SCENES = (figures_of_the_document, bank_lengths, every_slot, openings, orders_of_the_bank, damaged_slots,
-          one_damaged_of_sixteen, reports, windows_pushed, turns_of_the_second, whole_seconds, last_seconds,
-          whole_runs, windows_run, orders_of_judging, verdict_edges, verdict_extremes)
+          one_damaged_of_sixteen, salvage_lengths, one_mended_of_sixteen, salvage_of_31, salvage_side_by_side,
+          reports, windows_pushed, turns_of_the_second, whole_seconds, last_seconds, whole_runs, windows_run,
+          orders_of_judging, verdict_edges, verdict_extremes)

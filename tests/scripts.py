@@ -12,11 +12,13 @@ import collections
 from commands import compared, compared_on, dispatch, printed_by
 from files import PIECES, printed_by as printed_in_pieces
 from maker import Maker, record, run_record
+from reference import CLOSED, SOUND, TRIMMED
 from replay import ARGUMENTS, new_memory, replay
 from scenes import SCENES
 from traffic import any_traffic
 
 REFUSALS_REACHED = {1, 2, 3, 4, 5, 6, 7, 8, 9, 10, 11, 16, 17}
+FATES_REACHED = {SOUND, TRIMMED, CLOSED}
 
 
 # ---------------------------------------------------------------------------
@@ -25,7 +27,7 @@ REFUSALS_REACHED = {1, 2, 3, 4, 5, 6, 7, 8, 9, 10, 11, 16, 17}
 def every_record():
     """One record of each kind."""
     return [record(b"C", 4096), record(b"O", 4096, 0, 60, 60, 1000), record(b"P", 4096, 0, 1, 2, 3),
-            record(b"X", 4096, 0), record(b"S", 1, 1), record(b"D", 0),
+            record(b"X", 4096, 0), record(b"S", 1, 1), record(b"M", 4096), record(b"D", 0),
             record(b"J", 0, 0, 3, 1, 0, 0, 0, 1, 0, 0, 0), run_record(60, 15, [[1, 2, 3]] * 3)]
 
 
@@ -56,9 +58,20 @@ def made(seed, calls, ending=None):
     return maker
 
 
+def named_answers(line):
+    """The answers of a line: a refusal by its number, a salvage by the word of each slot, the others by their first
+    word."""
+    first, *rest = line.split()
+    if first == "refused":
+        return [line]
+    if first == "mended":
+        return ["mended " + fate.split("/")[0] for fate in rest]
+    return [first]
+
+
 def counts(lines):
-    """How often each answer is given: refusals by number, the others by their first word."""
-    return collections.Counter(line if line.startswith("refused") else line.split()[0] for line in lines)
+    """How often each answer is given."""
+    return collections.Counter(answer for line in lines for answer in named_answers(line))
 
 
 def make(seed, calls, script_path, expected_path, ending=None):
@@ -66,6 +79,7 @@ def make(seed, calls, script_path, expected_path, ending=None):
     maker = made(int(seed), int(calls), ending)
     answers = counts(maker.lines)
     assert all(answers["refused %d" % number] for number in REFUSALS_REACHED)
+    assert all(answers["mended " + word] for word in FATES_REACHED)
     with open(script_path, "wb") as file:
         file.writelines(maker.records)
     with open(expected_path, "w") as file:

@@ -1,12 +1,14 @@
-"""The figures of document 01, of CR 1 and of CR 2 on both sides of each edge, held against the model."""
+"""The figures of document 01, of CR 1, of CR 2 and of CR 3 on both sides of each edge, held against the model."""
 
 import random
 
 from files import document, header
+from maker import FREE, edited, held_slot
 from reference import (
-    BANK_BYTES, DONE, LEFT_OUT, SERVED, Device, Feed, Reference, Refused, Taken, Verdict, angle,
-    bits, differences, feed_of, frame_spacing, frequency_deviation, judge, listing, no_phase,
-    open_feed, positive_sequence, push, put_slot, sampling, slot_bytes, slot_of, whole_run, within_tve)
+    AFTER_PLACES, BANK_BYTES, CLOSED, DONE, LEFT_OUT, PLACES, SERVED, SLOT_BYTES, SLOTS, SOUND, TRIMMED, Device, Fate,
+    Feed, Mended, Reference, Refused, Taken, Verdict, angle, bits, clear, damage, differences, feed_of, frame_spacing,
+    frequency_deviation, judge, listing, no_phase, open_feed, positive_sequence, push, put_slot, salvage, sampling,
+    slot_bytes, slot_of, whole_run, within_tve)
 
 CLASSES = (0, 1)
 STEADY, RAMP = 0, 1
@@ -133,6 +135,155 @@ def rate_0_in_headers():
         yield listing(header(60, 50, version=version)), b"refused 7\n"
 
 
+# ---------------------------------------------------------------------------
+# CR 3: a figure is the bytes of a slot before and after, its word and its count
+
+SAMPLES = ((257, 257, 257),) * PLACES
+FULL = held_slot(SAMPLES, held=31)
+SOME = held_slot(SAMPLES, held=6)
+NONE = held_slot(SAMPLES, held=0)
+AFTER_SIX = 11 + 6 * 6
+# slots with each clause of faulty numbers, and their nonzero bytes: FULL has 194, of which 186 are its samples
+FAULTY_NUMBERS = (
+    (edited(FULL, 1, 51), 194), (edited(FULL, 1, 0), 193), (edited(FULL, 2, 11), 194), (edited(FULL, 2, 0), 193),
+    (edited(FULL, 1, 50), 194), (edited(NONE, 2, 0), 4),
+    (edited(FULL, 8, 3, 132), 195), (edited(FULL, 8, 255, 255), 195),
+    (held_slot(SAMPLES, nominal=50, rate=50, index=750), 195),
+    (edited(FULL, 3, 32), 194), (edited(FULL, 3, 255), 194),
+    (edited(FULL, 10, 31), 194), (edited(FULL, 10, 255), 194),
+    (edited(SOME, 10, 5), 44), (edited(SOME, 10, 7), 44), (edited(SOME, 9, 5), 44), (edited(SOME, 9, 7), 44),
+    (edited(SOME, 8, 1), 45), (edited(SOME, 9, 7, 7), 44), (edited(SOME, 3, 5), 44), (edited(NONE, 10, 1), 6),
+    (held_slot(SAMPLES, soc=0, index=30), 192), (held_slot(SAMPLES, soc=0, index=0), 191),
+)
+
+
+def sound_slots():
+    """Free and open slots, none, some and 31 held; the last byte of the last filled place is a sample's."""
+    for slot in (FREE, NONE, SOME, FULL, held_slot(SAMPLES, nominal=50, rate=10), edited(SOME, AFTER_SIX - 1, 255),
+                 edited(SOME, AFTER_SIX - 1, 0), edited(FULL, 196, 255), edited(FULL, 196, 0)):
+        yield slot, slot, SOUND, 0
+
+
+def trimmed_slots():
+    """Nonzero bytes in unfilled places or after byte 196 alone are set to zero."""
+    for at in (11, 16, 17, 196, 197, 255):
+        yield edited(NONE, at, 1), NONE, TRIMMED, 1
+    for at in (AFTER_SIX, AFTER_SIX + 5, AFTER_SIX + 6, 196, 197, 255):
+        yield edited(SOME, at, 255), SOME, TRIMMED, 1
+    for at in (197, 198, 255):
+        yield edited(FULL, at, 128), FULL, TRIMMED, 1
+    almost = held_slot(SAMPLES, held=30)
+    for at in (191, 196, 197):
+        yield edited(almost, at, 7), almost, TRIMMED, 1
+    yield edited(FULL, 196, 255, 255), edited(FULL, 196, 255), TRIMMED, 1
+    yield edited(SOME, AFTER_SIX - 1, 9, 9), edited(SOME, AFTER_SIX - 1, 9), TRIMMED, 1
+    yield edited(SOME, 195, 1, 2, 3, 4), SOME, TRIMMED, 4
+    yield edited(SOME, 195, 1, 0, 3, 0, 5), SOME, TRIMMED, 3
+    yield edited(FULL, AFTER_PLACES, *range(1, 60)), FULL, TRIMMED, 59
+    yield edited(NONE, 11, *range(1, 246)), NONE, TRIMMED, 245
+
+
+def closed_slots():
+    """Any other damaged slot is all zero; its nonzero bytes are those that differ."""
+    for at in (1, 11, 196, 197, 255):
+        yield edited(FREE, at, 1), FREE, CLOSED, 1
+    for state in (2, 255):
+        yield edited(FREE, 0, state), FREE, CLOSED, 1
+        yield edited(FULL, 0, state), FREE, CLOSED, 194
+    yield edited(FULL, 0, 0), FREE, CLOSED, 193
+    yield bytes([1]) * SLOT_BYTES, FREE, CLOSED, 256
+    yield bytes([2]) * SLOT_BYTES, FREE, CLOSED, 256
+    yield bytes([0]) + bytes([255]) * 255, FREE, CLOSED, 255
+    for faulty, count in FAULTY_NUMBERS:
+        yield faulty, FREE, CLOSED, count
+
+
+def beside_faulty_numbers():
+    """On the other side of each clause's edge the slot is sound, and is trimmed where a stray byte is put to it."""
+    for slot in (held_slot(SAMPLES, index=899), held_slot(SAMPLES, nominal=50, rate=50, index=749),
+                 held_slot(SAMPLES, place=30), held_slot(SAMPLES, soc=0, index=31), held_slot(SAMPLES, soc=1, index=0),
+                 held_slot(SAMPLES, nominal=50, rate=25), held_slot(SAMPLES, held=30, soc=0)):
+        yield slot, slot, SOUND, 0
+        yield edited(slot, 255, 1), slot, TRIMMED, 1
+
+
+def slots_with_both():
+    """A slot with both kinds of damage is closed."""
+    for faulty, count in FAULTY_NUMBERS:
+        yield edited(faulty, 255, 1), FREE, CLOSED, count + 1
+    yield edited(edited(SOME, 9, 7), AFTER_SIX, 1), FREE, CLOSED, 45
+    yield edited(edited(NONE, 1, 51), 11, *range(1, 246)), FREE, CLOSED, 250
+
+
+def mended_alone():
+    """Each slot figure, in one slot among sound ones: only that slot is altered, and mended again nothing is."""
+    others = [FULL, FREE, SOME, NONE] * 4
+    figures = [figure for figures in (sound_slots, trimmed_slots, closed_slots, beside_faulty_numbers, slots_with_both)
+               for figure in figures()]
+    for n, (before, after, word, count) in enumerate(figures):
+        # slot 15 first, and every other in turn
+        slot = 15 - n % 16
+        bank = bytearray(b"".join(others))
+        put_slot(bank, slot, before)
+        fates = [Fate(SOUND, 0)] * 16
+        fates[slot] = Fate(word, count)
+        yield salvage(bank), Mended(tuple(fates))
+        yield bytes(bank), b"".join(others[:slot] + [after] + others[slot + 1:])
+        yield any(damage(slot_bytes(bank, each)) for each in SLOTS), False
+        once = bytes(bank)
+        yield salvage(bank), Mended((Fate(SOUND, 0),) * 16)
+        yield bytes(bank), once
+
+
+def mended_together():
+    """Slots of each kind beside each other: what becomes of one depends on its bytes alone."""
+    kinds = [(FREE, FREE, SOUND, 0), (edited(SOME, 197, 1), SOME, TRIMMED, 1), (edited(FREE, 255, 1), FREE, CLOSED, 1),
+             (edited(edited(FULL, 2, 0), 255, 1), FREE, CLOSED, 194)]
+    for turn in range(4):
+        slots = (kinds[turn:] + kinds[:turn]) * 4
+        bank = bytearray(b"".join(before for before, _, _, _ in slots))
+        yield salvage(bank), Mended(tuple(Fate(word, count) for _, _, word, count in slots))
+        yield bytes(bank), b"".join(after for _, after, _, _ in slots)
+    for word, before, after, count in ((SOUND, FULL, FULL, 0), (TRIMMED, edited(FULL, 255, 1), FULL, 1),
+                                       (CLOSED, bytes([255]) * SLOT_BYTES, FREE, 256)):
+        bank = bytearray(before * 16)
+        yield salvage(bank), Mended((Fate(word, count),) * 16)
+        yield bytes(bank), after * 16
+
+
+def refused_salvage():
+    """Refused 1 at every length but 4096, and then no byte is altered."""
+    for length in (0, 1, 255, 256, 4095, 4097, 8192):
+        for fill in (0, 255):
+            image = bytearray([fill]) * length
+            yield salvage(image), Refused(1)
+            yield bytes(image), bytes([fill]) * length
+    cleared = bytearray(BANK_BYTES)
+    clear(cleared)
+    yield salvage(cleared), Mended((Fate(SOUND, 0),) * 16)
+
+
+def pushes_after_salvage():
+    """A trimmed feed goes on as if it had not been damaged; a closed one is free."""
+    banks = [bytearray(BANK_BYTES) for _ in range(2)]
+    for bank in banks:
+        open_feed(bank, 5, 60, 60, 1000)
+        open_feed(bank, 15, 50, 50, 1000)
+    banks[1][5 * SLOT_BYTES + 255] = 1
+    banks[1][15 * SLOT_BYTES + 1] = 51
+    yield push(banks[1], 5, 0, 0, 0), Refused(3)
+    yield salvage(banks[1]).fates[5::10], (Fate(TRIMMED, 1), Fate(CLOSED, 5))
+    reports = [[push(bank, 5, n, -n, 7) for n in range(31)] for bank in banks]
+    yield reports[1], reports[0]
+    yield reports[1][30].report.frame, 1
+    yield push(banks[1], 15, 0, 0, 0), Refused(5)
+    yield open_feed(banks[1], 15, 50, 50, 1000), DONE
+    yield banks[1], banks[0]
+
+
+# ---------------------------------------------------------------------------
+# The bank and the whole run
+
 def bank_and_whole_run():
     """The reports of a feed are the whole run's at the multiples of D, with the centre's tag."""
     rng = random.Random(1)
@@ -160,7 +311,8 @@ def bank_and_whole_run():
 
 CHECKS = (angles, single_samples, wrapped_differences, total_vector_errors, steady_frequency_errors,
           steady_rocof_errors, left_out_intervals, last_second, runs_of_31, whole_listing,
-          rate_0_at_opening, rate_0_in_headers, bank_and_whole_run)
+          rate_0_at_opening, rate_0_in_headers, mended_alone, mended_together, refused_salvage,
+          pushes_after_salvage, bank_and_whole_run)
 
 
 def main():

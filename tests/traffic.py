@@ -3,8 +3,8 @@
 import struct
 
 from inputs import HIGH, LOW, any_run, any_wave, opening_pairs
-from maker import FREE, LENGTHS, SLOTS, edited
-from reference import BANK_BYTES, FIRST_PLACE, LAST_SOC, SLOT_BYTES, damage, is_open, sampling, slot_bytes
+from maker import FREE, LENGTHS, edited
+from reference import BANK_BYTES, FIRST_PLACE, LAST_SOC, SLOT_BYTES, SLOTS, damage, is_open, sampling, slot_bytes
 
 
 def any_judging(maker):
@@ -28,17 +28,32 @@ def any_whole_run(maker):
               [any_run(rng, length) for length in lengths])
 
 
+def any_change(maker, slot):
+    """A byte of a slot is changed."""
+    rng = maker.rng
+    at = SLOT_BYTES * slot + rng.choice((rng.randrange(FIRST_PLACE), rng.randrange(SLOT_BYTES)))
+    maker.set(at, rng.choice((0, 1, maker.memory[at] ^ 1, rng.randint(0, 255))))
+
+
 def any_damage(maker):
     """A byte of a slot is changed, the slot is tried, and most often the byte is put back."""
     rng = maker.rng
     slot = rng.choice(SLOTS)
     before = slot_bytes(maker.memory, slot)
-    at = rng.choice((rng.randrange(FIRST_PLACE), rng.randrange(SLOT_BYTES)))
-    maker.set(SLOT_BYTES * slot + at, rng.choice((0, 1, before[at] ^ 1, rng.randint(0, 255))))
+    any_change(maker, slot)
     rng.choice((maker.push, maker.close, maker.open, maker.show))(slot)
     maker.push((slot + rng.choice((1, 15))) % 16)
     if damage(slot_bytes(maker.memory, slot)) and rng.random() < 0.9:
         maker.lay(slot, before)
+
+
+def any_salvage(maker):
+    """Bytes of a few slots are changed, and the image is mended."""
+    rng = maker.rng
+    for slot in rng.sample(SLOTS, rng.randint(0, 4)):
+        for _ in range(rng.choice((1, 1, 1, 2, 9))):
+            any_change(maker, slot)
+    maker.mend()
 
 
 def any_moment(maker):
@@ -88,6 +103,7 @@ def any_length(maker):
     call(slot, length=length)
     if length != BANK_BYTES:
         maker.clear(length)
+        maker.mend(length)
 
 
 def any_show(maker):
@@ -95,7 +111,7 @@ def any_show(maker):
     maker.show(maker.rng.choice(SLOTS))
 
 
-TRAFFIC = {any_pushes: 30, any_opening: 12, any_closing: 3, any_damage: 6, any_moment: 4, any_show: 12,
+TRAFFIC = {any_pushes: 30, any_opening: 12, any_closing: 3, any_damage: 6, any_salvage: 2, any_moment: 4, any_show: 12,
            any_judging: 40, any_whole_run: 8, any_length: 2}
 
 

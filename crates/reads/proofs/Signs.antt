@@ -1,7 +1,7 @@
 -- What the tests of a count tell of its meaning: by its sign, and by its bits, which are 0 only of 0. Assumes nothing.
 use mathlib.Core.Path.{_≡_, refl, subst}
 use mathlib.Core.Bool.{true, false}
-use Prim.Native.Nat.{zero, suc}
+use Prim.Native.Nat.{ℕ, zero, suc, _<_}
 use native.Mathlib.Omega.{arith}
 use borrow.Author.Tests.{ltb-true}
 use lib.Dec.{T}
@@ -31,3 +31,9 @@ pub some : (z : ℤ) → SFits w64 z → ltZ z (pos 0) ≡ false → (ofZ w64 z 
 some (pos zero) f e b = absurd (b refl)
 some (pos (suc n)) f e b = record { up = tt; small = record { fits = omega (arith, f .sfits) }; is = refl }
 some (negsuc n) f e b = absurd (subst T e tt)
+
+-- a read that brings bytes brings at least one
+pub at-least-one : (z : ℤ) (n : ℕ) → meaning z ≡ Bytes n → 0 < n
+at-least-one (pos zero) n e = absurd (let z : _≡_ {A = ℕ} 0 1 = cc in omega arith)
+at-least-one (pos (suc k)) n e = let same : suc k ≡ n = cc in omega arith
+at-least-one (negsuc k) n e = absurd (let z : _≡_ {A = ℕ} 0 1 = cc in omega arith)

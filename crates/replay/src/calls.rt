@@ -1,5 +1,6 @@
 // Each kind of record as a call of the library. The numbers given to the readers are the places of a record's arguments.
 use crate::lines::put_bytes;
+use crate::lines::put_salvaged;
 use crate::script::byte_at;
 use crate::script::i16_at;
 use crate::script::i32_at;
@@ -60,6 +61,16 @@ pub(crate) fn push(script: &[u8], memory: &mut [u8]) -> Answer {
         c: i16_at(script, 8),
     };
     bank::push(&mut memory[0..n], slot, sample)
+}
+
+// `M`: len.
+pub(crate) fn mend(script: &[u8], memory: &mut [u8], out: &mut [u8], at: usize) -> usize
+    requires { ⌜ at + 1024 ≤ length (now out) ⌝ }
+    ensures { λ r. ⌜ r ≤ length (now (out .exit)) ⌝ }
+{
+    let n = lent(script, memory);
+    let salvaged = salvage::mend(&mut memory[0..n]);
+    put_salvaged(salvaged, out, at)
 }
 
 // `S`: at, value. Nothing where the memory has no such byte.

@@ -4,6 +4,10 @@ use feed::Answer;
 use feed::Report;
 use model::Figures;
 use runs::Measured;
+use salvage::Ending;
+use salvage::Fate;
+use salvage::MendedSlot;
+use salvage::Salvaged;
 use text::Word;
 use verdict::Judged;
 ghost use Prim.Native.Nat.{_+_, _≤_};
@@ -64,6 +68,57 @@ pub(crate) fn put_answer(answer: Answer, out: &mut [u8], at: usize) -> usize
         Answer::Taken => put_plain(b"taken\n", out, at),
         Answer::Reported(r) => put(b"report % % % % % % % % % % %\n", report_words(r), out, at),
     }
+}
+
+// `mended` and sixteen words, or `refused N`
+pub(crate) fn put_salvaged(s: Salvaged, out: &mut [u8], at: usize) -> usize
+    requires { ⌜ at + 1024 ≤ length (now out) ⌝ }
+    ensures { λ r. ⌜ r ≤ length (now (out .exit)) ⌝ }
+{
+    let ending = s.ending;
+    let slots = s.slots;
+    match ending {
+        Ending::Refused(n) => put_refused(n, out, at),
+        Ending::Mended => put_slots(slots, out, at),
+    }
+}
+
+// A part of a line, wherever it begins. There is room: a line of sixteen slots takes 200 bytes at the most, and a part asks for 240.
+fn put_part(form: &[u8], word: Word, out: &mut [u8], at: usize) -> usize
+    requires { ⌜ at ≤ length (now out) ⌝ }
+    ensures { λ r. ⌜ r ≤ length (now (out .exit)) ⌝ }
+{
+    let words = three(word, Word::Blank, Word::Blank);
+    text::put(form, words, out, at)
+}
+
+// ` sound/N`, ` trimmed/N` or ` closed/N`
+fn put_slot(slot: MendedSlot, out: &mut [u8], at: usize) -> usize
+    requires { ⌜ at ≤ length (now out) ⌝ }
+    ensures { λ r. ⌜ r ≤ length (now (out .exit)) ⌝ }
+{
+    let differing = Word::Number(slot.differing as u64);
+    let fate = slot.fate;
+    match fate {
+        Fate::Sound => put_part(b" sound/%", differing, out, at),
+        Fate::Trimmed => put_part(b" trimmed/%", differing, out, at),
+        Fate::Closed => put_part(b" closed/%", differing, out, at),
+    }
+}
+
+// `mended` and a word for each slot
+fn put_slots(slots: [MendedSlot; 16], out: &mut [u8], at: usize) -> usize
+    requires { ⌜ at + 1024 ≤ length (now out) ⌝ }
+    ensures { λ r. ⌜ r ≤ length (now (out .exit)) ⌝ }
+{
+    let mut end = put_part(b"mended", Word::Blank, out, at);
+    let mut k: usize = 0;
+    while k < 16 {
+        let slot = slots[k];
+        end = put_slot(slot, out, end);
+        k += 1;
+    }
+    put_part(b"\n", Word::Blank, out, end)
 }
 
 // `figures ..` or `refused N`

@@ -62,6 +62,7 @@ fn run(script: &[u8], memory: &mut [u8], out: &mut [u8], at: usize) -> usize
     match letter {
         b'C' | b'O' | b'X' => lines::put_settled(calls::settle(script, memory), out, at),
         b'P' => lines::put_answer(calls::push(script, memory), out, at),
+        b'M' => calls::mend(script, memory, out, at),
         b'S' => {
             calls::set(script, memory);
             at

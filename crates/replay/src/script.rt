@@ -51,6 +51,7 @@ pub(crate) fn length_of(script: &[u8]) -> usize {
         b'O' => 10,
         b'P' => 10,
         b'X' => 4,
+        b'M' => 3,
         b'S' => 4,
         b'D' => 2,
         b'W' => run_length(script),

@@ -9,7 +9,7 @@ use native.Mathlib.Omega.{arith}
 use borrow.Author.Tests.{leb-true, leb-false, le-leb, lt-leb}
 use lib.Dec.{leb}
 use lib.ListN.{length, set}
-use lib.Seq.{sets}
+use lib.Seq.{sets, length-sets}
 use Rattle.text.specs.Text.{digits}
 use Rattle.text.specs.declared.Word.{Word}
 use Rattle.text.specs.Put.{Wrote, Put, spelt}
@@ -73,3 +73,17 @@ put-wrote {room} {at} {r} {text} {before} {after} h p =
     p .outcome ∙ ap (λ (t : Bool). cond t (at + length text, sets before at text) (at, before)) (le-leb (at + room) (length before) h) in
     let n : r ≡ at + length text = ap (λ (o : ℕ × List ℕ). o .0) e in
     record { ends = n; bytes = ap (λ (o : ℕ × List ℕ). o .1) e; short = omega (arith, p .short) }
+
+-- a call that begins within the bytes ends within them
+pub put-within : {room at r : ℕ} {text before after : List ℕ} → at ≤ length before → Put room text before at r after → r ≤ length after
+put-within {room} {at} {r} {text} {before} {after} h p = go (leb (at + room) (length before)) refl (p .outcome)
+  where
+    go : (t : Bool) → leb (at + room) (length before) ≡ t
+        → _≡_ {A = ℕ × List ℕ} (r, after) (cond t (at + length text, sets before at text) (at, before)) → r ≤ length after
+    go true fits e =
+        let same : length after ≡ length before = ap (λ (o : ℕ × List ℕ). length (o .1)) e ∙ length-sets before at text in
+        omega (arith, leb-true (at + room) (length before) fits, p .short)
+    go false fits e =
+        let same : length after ≡ length before = ap (λ (o : ℕ × List ℕ). length (o .1)) e in
+        let stays : r ≡ at = ap (λ (o : ℕ × List ℕ). o .0) e in
+        omega arith
