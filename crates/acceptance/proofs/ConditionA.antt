@@ -4,7 +4,6 @@ use mathlib.Core.Bool.{Bool, true, false, cond}
 use mathlib.Core.List.{List}
 use Prim.Native.Nat.{ℕ}
 use Rattle.model.specs.declared.report.Figures.{Figures}
-use Rattle.feed.specs.declared.Answer.{Answer}
 use Rattle.feed.specs.declared.Answer.the-variants.{Refused, Taken}
 use Rattle.feed.proofs.Unique.{unsaid}
 use Rattle.feed.specs.Answers.{Said, refused, done, taken, said, tagged}
@@ -24,41 +23,34 @@ use Rattle.runs.specs.declared.Measured.the-variants.{Refused as MeasuredRefuse
 use Rattle.runs.specs.Runs.{sampleAt, measured, refused as runRefused, said as runSaid}
 use Rattle.header.specs.declared.Header.the-variants.{Refused as HeaderRefused, Opens}
 use Rattle.header.specs.Header.{headed, refused as headerRefused, said as headerSaid}
-use Rattle.verdict.specs.declared.judging.Judged.{Judged}
 use Rattle.verdict.specs.declared.judging.Judged.the-variants.{Refused as JudgedRefused, LeftOut, Verdicts}
 use Rattle.verdict.specs.declared.judging.Verdict.{Verdict}
 use Rattle.verdict.specs.Errors.{errorsOf}
 use Rattle.verdict.specs.Limits.{limitsFor}
-use Rattle.verdict.specs.Judging.{left-out, leftOut, verdictOn, judgement, Said as JudgedSaid, saidVerdict, refused as verdictRefused, said as verdictSaid}
+use Rattle.verdict.specs.Judging.{left-out, leftOut, verdictOn, judgement, saidVerdict, refused as verdictRefused, said as verdictSaid}
 use Rattle.refusals.specs.Refusals.{Refusal, unlessRefused}
 use Rattle.acceptance.specs.ConditionA.{Refuses, ConditionA}
 use Rattle.acceptance.proofs.Refusing.{Joins, alone, refuses}
 
--- a push can say this, and it is no refusal
-record Grants (s : Said) : Type 0 where
-  answer : Answer
-  says : said answer ≡ s
-  no-refusal : (n : ℕ) → s ≡ refused n → ⊥
+-- a call can answer so that this is said, and it is no refusal
+record Grants {A S : Type 0} (saying : A → S) (refused-as : ℕ → S) (s : S) : Type 0 where
+  answer : A
+  says : saying answer ≡ s
+  no-refusal : (n : ℕ) → s ≡ refused-as n → ⊥
 
-tagged-granted : (soc frame : ℕ) (f : Figures) → Grants (tagged soc frame f)
+tagged-granted : (soc frame : ℕ) (f : Figures) → Grants said refused (tagged soc frame f)
 unfolding tagged
 tagged-granted soc frame f = record { answer = unsaid (tagged soc frame f); says = refl; no-refusal = λ n e. let z : _≡_ {A = ℕ} 0 1 = cc in omega arith }
 
-answered-granted : (h : History) → Grants (answered h)
+answered-granted : (h : History) → Grants said refused (answered h)
 unfolding answered reportAt
 answered-granted h = go (isDue h)
   where
-    go : (b : Bool) → Grants (cond b (reportAt h (centreOf h)) taken)
+    go : (b : Bool) → Grants said refused (cond b (reportAt h (centreOf h)) taken)
     go true = tagged-granted _ _ _
     go false = record { answer = Taken; says = refl; no-refusal = λ n e. let z : _≡_ {A = ℕ} 0 1 = cc in omega arith }
 
--- judging can say this, and it is no refusal
-record Judges (s : JudgedSaid) : Type 0 where
-  answer : Judged
-  says : verdictSaid answer ≡ s
-  no-refusal : (n : ℕ) → s ≡ verdictRefused n → ⊥
-
-judged-granted : (out : Bool) (v : Verdict) → Judges (cond out left-out (saidVerdict v))
+judged-granted : (out : Bool) (v : Verdict) → Grants verdictSaid verdictRefused (cond out left-out (saidVerdict v))
 judged-granted true v = record { answer = LeftOut; says = refl; no-refusal = λ n e. let z : _≡_ {A = ℕ} 0 1 = cc in omega arith }
 judged-granted false v = record { answer = Verdicts v; says = refl; no-refusal = λ n e. let z : _≡_ {A = ℕ} 0 1 = cc in omega arith }
 

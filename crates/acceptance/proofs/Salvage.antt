@@ -1,7 +1,7 @@
 -- The promises of salvage hold: each slot of a mended image is what the rule makes of that slot, and so is what is said of it. Assumes nothing.
 use mathlib.Core.Path.{_≡_, refl, sym, ap, _∙_, subst}
 use mathlib.Core.Bool.{Bool, true, false, not, cond}
-use mathlib.Core.List.{List, flatten}
+use mathlib.Core.List.{List}
 use Prim.Native.Nat.{ℕ, _≤_}
 use native.Mathlib.Omega.{arith}
 use lib.Dec.{eqb}
@@ -12,21 +12,15 @@ use Rattle.bank.specs.Damage.{isDamaged, onlyStray}
 use Rattle.bank.proofs.Lent.{pass}
 use Rattle.bank.proofs.Slots.{slot-length}
 use Rattle.salvage.specs.declared.Fate.{Fate}
-use Rattle.salvage.specs.declared.Fate.the-variants.{Sound}
-use Rattle.salvage.specs.declared.Ending.the-variants.{Mended}
 use Rattle.salvage.specs.declared.MendedSlot.{MendedSlot}
-use Rattle.salvage.specs.Slots.{fateOf, trimmed, leftBy, mendedSlot, differing, told}
-use Rattle.salvage.specs.Image.{eachSlot, refused, mended, ended, said, allSound, Outcome, refusing, salvaged}
+use Rattle.salvage.specs.Slots.{fateOf, trimmed, leftBy, mendedSlot, differing, unaltered, told}
+use Rattle.salvage.specs.Image.{mendedImage, toldOf, refused, mended, ended, said, allSound, Outcome, refusing, granted, salvaged}
 use Rattle.salvage.proofs.Fates.{stays, trims, closes, stray-held}
 use Rattle.salvage.proofs.Trims.{numbers-stay, filled-stay, unfilled-zero, tail-zero}
-use Rattle.salvage.proofs.Copies.{differing-most}
+use Rattle.salvage.proofs.Counts.{differing-most}
 use Rattle.salvage.proofs.Slots.{left-by, sound-stays, sound-told, mended-sound}
 use Rattle.salvage.proofs.Images.{mended-whole, mended-at, is-mended, said-at, is-each}
 use Rattle.acceptance.specs.Salvage.{Mends, saidAt, OfEachSlot, SetToZero, Salvage}
-
--- what the rule gives for an image of 4096 bytes
-abbrev granted : List ℕ → Outcome
-granted image = record { answer = record { ending = Mended; slots = eachSlot told image 0 16 }; image = flatten (eachSlot mendedSlot image 0 16) }
 
 -- slot by slot
 record Slotwise (image : List ℕ) (slots : List MendedSlot) (after : List ℕ) : Type 0 where
@@ -45,9 +39,9 @@ slotwise {image} {after} {slots} m = go (not (eqb (length image) 4096)) refl (m 
         absurd (let other : refused 1 ≡ mended slots = sym (ap (λ (o : Outcome). said (o .answer)) e) ∙ m .says in let z : _≡_ {A = ℕ} 0 1 = cc in omega arith)
     go false p e =
         let whole = eqb-true (length image) 4096 (not-false _ p) in
-        let bytes : after ≡ flatten (eachSlot mendedSlot image 0 16) = ap (λ (o : Outcome). o .image) e in
-        let same : mended (eachSlot told image 0 16) ≡ mended slots = sym (ap (λ (o : Outcome). said (o .answer)) e) ∙ m .says in
-        let each : eachSlot told image 0 16 ≡ slots = cc in
+        let bytes : after ≡ mendedImage image = ap (λ (o : Outcome). o .image) e in
+        let same : mended (toldOf image) ≡ mended slots = sym (ap (λ (o : Outcome). said (o .answer)) e) ∙ m .says in
+        let each : toldOf image ≡ slots = cc in
         record {
           whole = whole;
           whole-after = ap length bytes ∙ mended-whole image whole;
@@ -80,12 +74,12 @@ trimmed-so s size e =
 
 -- an image with no damaged slot is mended into itself, and each slot is said to be sound
 module _ (image : List ℕ) (whole : length image ≡ 4096) (sound : (k : ℕ) → k ≤ 15 → isDamaged (slotAt image k) ≡ false) where
-  stays-so : flatten (eachSlot mendedSlot image 0 16) ≡ image
+  stays-so : mendedImage image ≡ image
   stays-so = sym (is-mended image whole image whole (λ k h. sym (sound-stays (slotAt image k) (sound k h))))
 
-  said-sound : eachSlot told image 0 16 ≡ allSound
+  said-sound : toldOf image ≡ allSound
   said-sound =
-      sym (is-each told image (record { fate = Sound; differing = 0 }) allSound refl
+      sym (is-each told image unaltered allSound refl
       (λ k h. getD-replicate 16 k _ _ (omega arith) ∙ sym (sound-told (slotAt image k) (sound k h))))
 
 pub salvage-holds : Salvage

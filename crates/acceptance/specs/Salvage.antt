@@ -10,7 +10,7 @@ use Rattle.bank.specs.Damage.{isDamaged, onlyStray}
 use Rattle.salvage.specs.declared.Fate.the-variants.{Sound, Trimmed, Closed}
 use Rattle.salvage.specs.declared.MendedSlot.{MendedSlot}
 use Rattle.salvage.specs.declared.Salvaged.{Salvaged}
-use Rattle.salvage.specs.Slots.{differing}
+use Rattle.salvage.specs.Slots.{differing, unaltered}
 use Rattle.salvage.specs.Image.{mended, said, allSound, Mending}
 
 -- a call that mends: its contract admits this answer and these bytes, and of its slots it says these
@@ -21,7 +21,7 @@ pub record Mends (image : List ℕ) (slots : List MendedSlot) (after : List ℕ)
 
 -- what is said of slot k
 abbrev pub saidAt : List MendedSlot → ℕ → MendedSlot
-saidAt slots k = getD slots k (record { fate = Sound; differing = 0 })
+saidAt slots k = getD slots k unaltered
 
 -- a promise of each slot of an image that is mended: of its bytes before, of what is said of it, and of its bytes after
 abbrev pub OfEachSlot : (List ℕ → MendedSlot → List ℕ → Type 0) → Type 0

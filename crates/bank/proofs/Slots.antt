@@ -1,13 +1,13 @@
 -- Slots of a bank of 4096 bytes: a slot that is put in is there, the others are as they were, and the length stays. By cutting the bank at the slot's two ends. Assumes nothing.
 use mathlib.Core.Path.{_≡_, refl, sym, _∙_, ap}
 use mathlib.Core.Bool.{Bool, true, false}
-use mathlib.Core.List.{List, [], _∷_, _++_}
+use mathlib.Core.List.{List, [], _∷_, _++_, append-nil}
 use Prim.Native.Nat.{ℕ, zero, suc, _+_, _-_, _*_, _≤_, _<_}
-use native.Mathlib.Nat.{zero-add, suc-add, add-sub-cancel-left}
+use native.Mathlib.Nat.{zero-add, suc-add, add-sub-cancel-left, le-of-eq}
 use native.Mathlib.Omega.{arith}
 use lib.Dec.{ltb}
-use lib.ListN.{length, take, drop, length-drop, length-append, take-append-drop}
-use lib.Seq.{take-nil, take-at, drop-at, take-append-le, drop-append-le, take-take, drop-drop, length-take-le}
+use lib.ListN.{length, take, drop, length-drop, length-append, take-append-drop, drop-of-length-le}
+use lib.Seq.{take-nil, take-length, take-at, drop-at, take-append-le, drop-append-le, take-take, drop-drop, length-take-le}
 use borrow.Author.Tests.{ltb-true, ltb-false}
 use borrow.Rule.Slice.PartMut.{putMid}
 use Rattle.bank.specs.Slot.{slotAt, withSlot}
@@ -16,6 +16,10 @@ pub drop-take : (n m : ℕ) (l : List ℕ) → drop n (take (n + m) l) ≡ take 
 drop-take zero m l = rw zero-add
 drop-take (suc n) m [] = rw (suc-add n m) (sym (take-nil m))
 drop-take (suc n) m (x ∷ l) = rw (suc-add n m) (drop-take n m l)
+
+-- all of one list over another that is as long is that list
+pub all-over : (from to : List ℕ) → length to ≡ length from → take (length from) from ++ drop (length from) to ≡ from
+all-over from to e = rw (take-length from, drop-of-length-le to (le-of-eq e)) (append-nil from)
 
 -- a slot put back as it was leaves the bank as it was
 pub put-back : (bank : List ℕ) (k : ℕ) → withSlot bank k (slotAt bank k) ≡ bank

@@ -10,7 +10,7 @@ use Rattle.bank.specs.Slot.{slotAt}
 use Rattle.bank.proofs.Slots.{slot-length}
 use Rattle.bank.proofs.Sixteen.{banks-equal}
 use Rattle.salvage.specs.Slots.{mendedSlot}
-use Rattle.salvage.specs.Image.{eachSlot}
+use Rattle.salvage.specs.Image.{eachSlot, mendedImage}
 use Rattle.salvage.proofs.Slots.{mended-length}
 
 module _ {A : Type 0} (rule : List ℕ → A) (image : List ℕ) where
@@ -64,17 +64,17 @@ module _ (image : List ℕ) (whole : length image ≡ 4096) where
   slots-whole : Whole mendedSlot image 0 16
   slots-whole j h l = mended-length (slotAt image j) (slot-length image j whole (omega arith))
 
-  pub mended-whole : length (flatten (eachSlot mendedSlot image 0 16)) ≡ 4096
+  pub mended-whole : length (mendedImage image) ≡ 4096
   mended-whole = flat-length mendedSlot image 0 16 slots-whole
 
-  pub mended-at : (k : ℕ) → k ≤ 15 → slotAt (flatten (eachSlot mendedSlot image 0 16)) k ≡ mendedSlot (slotAt image k)
+  pub mended-at : (k : ℕ) → k ≤ 15 → slotAt (mendedImage image) k ≡ mendedSlot (slotAt image k)
   mended-at k h =
       flat-at mendedSlot image 0 16 k slots-whole (omega arith)
       ∙ ap (λ (i : ℕ). mendedSlot (slotAt image i)) (zero-add k)
 
   -- the image that has these slots is the mended one
   pub is-mended : (after : List ℕ) → length after ≡ 4096 → ((k : ℕ) → k ≤ 15 → slotAt after k ≡ mendedSlot (slotAt image k))
-      → after ≡ flatten (eachSlot mendedSlot image 0 16)
+      → after ≡ mendedImage image
   is-mended after size same = banks-equal after _ size mended-whole (λ k h. same k h ∙ sym (mended-at k h))
 
 -- ---- what is said of the sixteen

@@ -1,7 +1,7 @@
 -- The laws of `salvage`.
 pub mod Fates
 pub mod Trims
-pub mod Copies
+pub mod Counts
 pub mod Slots
 pub mod Images
 pub mod Turns

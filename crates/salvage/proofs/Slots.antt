@@ -10,11 +10,10 @@ use Rattle.bank.specs.declared.damage.Damage.the-variants.{None, Stray, Other}
 use Rattle.bank.specs.Damage.{isDamaged, onlyStray, damageOf}
 use Rattle.bank.proofs.Keeping.{free-undamaged}
 use Rattle.salvage.specs.declared.Fate.{Fate}
-use Rattle.salvage.specs.declared.Fate.the-variants.{Sound}
-use Rattle.salvage.specs.Slots.{fateBy, fateOf, trimmed, leftBy, mendedSlot, differing, told}
+use Rattle.salvage.specs.Slots.{fateBy, fateOf, trimmed, leftBy, mendedSlot, differing, unaltered, told}
 use Rattle.salvage.proofs.Fates.{stays, stray-held}
 use Rattle.salvage.proofs.Trims.{trimmed-length, trimmed-sound}
-use Rattle.salvage.proofs.Copies.{differing-none}
+use Rattle.salvage.proofs.Counts.{differing-none}
 
 -- ---- by the fate
 
@@ -27,7 +26,7 @@ pub sound-stays : (s : List ℕ) → isDamaged s ≡ false → mendedSlot s ≡ 
 unfolding leftBy
 sound-stays s e = left-by s (stays s e)
 
-pub sound-told : (s : List ℕ) → isDamaged s ≡ false → told s ≡ record { fate = Sound; differing = 0 }
+pub sound-told : (s : List ℕ) → isDamaged s ≡ false → told s ≡ unaltered
 unfolding told
 sound-told s e =
     let none : differing s (mendedSlot s) ≡ 0 = ap (λ (t : List ℕ). differing s t) (sound-stays s e) ∙ differing-none s in

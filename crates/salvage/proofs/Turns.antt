@@ -1,6 +1,6 @@
 -- Slots mended one after another: those before the k-th are mended and told of, the others are as they were. Assumes nothing.
 use mathlib.Core.Path.{_≡_, refl, _∙_, ap}
-use mathlib.Core.List.{List, flatten}
+use mathlib.Core.List.{List}
 use Prim.Native.Nat.{ℕ, _+_, _-_, _*_, _≤_, _<_}
 use native.Mathlib.Nat.{ne-of-lt}
 use native.Mathlib.Omega.{arith}
@@ -10,20 +10,16 @@ use lib.ListN.{length, getD, set, take, drop, length-set}
 use lib.Seq.{getD-set-same, getD-set-other}
 use Rattle.bank.specs.Slot.{slotAt, withSlot}
 use Rattle.bank.proofs.Slots.{lent-slot, back-slot, slot-length, length-kept, same-slot, other-slot}
-use Rattle.salvage.specs.declared.Fate.the-variants.{Sound}
 use Rattle.salvage.specs.declared.MendedSlot.{MendedSlot}
-use Rattle.salvage.specs.Slots.{mendedSlot, told}
-use Rattle.salvage.specs.Image.{eachSlot}
+use Rattle.salvage.specs.Slots.{mendedSlot, unaltered, told}
+use Rattle.salvage.specs.Image.{mendedImage, toldOf}
 use Rattle.salvage.proofs.Slots.{mended-length}
 use Rattle.salvage.proofs.Images.{is-each, is-mended}
-
-abbrev untold : MendedSlot
-untold = record { fate = Sound; differing = 0 }
 
 pub record MendedTo (k : ℕ) (before image : List ℕ) (slots : List MendedSlot) : Type 0 where
   pub whole : length image ≡ 4096
   pub sixteen : length slots ≡ 16
-  pub said : (j : ℕ) → j < k → getD slots j untold ≡ told (slotAt before j)
+  pub said : (j : ℕ) → j < k → getD slots j unaltered ≡ told (slotAt before j)
   pub done : (j : ℕ) → j < k → slotAt image j ≡ mendedSlot (slotAt before j)
   pub others : (j : ℕ) → k ≤ j → slotAt image j ≡ slotAt before j
 
@@ -59,8 +55,8 @@ module _ {k : ℕ} {before image : List ℕ} {slots : List MendedSlot} (named : 
       whole = length-kept image k (m .whole) named s size;
       sixteen = length-set slots k r ∙ m .sixteen;
       said = below-more _ k
-          (λ j h. getD-set-other slots k j r untold (ne-of-lt h) ∙ m .said j h)
-          (getD-set-same slots k r untold (omega (arith, m .sixteen)) ∙ says ∙ ap told lent-is);
+          (λ j h. getD-set-other slots k j r unaltered (ne-of-lt h) ∙ m .said j h)
+          (getD-set-same slots k r unaltered (omega (arith, m .sixteen)) ∙ says ∙ ap told lent-is);
       done = below-more _ k
           (λ j h. other-slot image k (m .whole) named s size j (ne-of-lt h) ∙ m .done j h)
           (same-slot image k (m .whole) named s size ∙ mends);
@@ -73,8 +69,8 @@ module _ {k : ℕ} {before image : List ℕ} {slots : List MendedSlot} (named : 
 
 -- after sixteen turns the image is mended
 module _ {k : ℕ} {before image : List ℕ} {slots : List MendedSlot} (all : k ≡ 16) (start : length before ≡ 4096) (m : MendedTo k before image slots) where
-  pub all-told : slots ≡ eachSlot told before 0 16
-  all-told = is-each told before untold slots (m .sixteen) (λ j h. m .said j (omega arith))
+  pub all-told : slots ≡ toldOf before
+  all-told = is-each told before unaltered slots (m .sixteen) (λ j h. m .said j (omega arith))
 
-  pub all-mended : image ≡ flatten (eachSlot mendedSlot before 0 16)
+  pub all-mended : image ≡ mendedImage before
   all-mended = is-mended before start image (m .whole) (λ j h. m .done j (omega arith))

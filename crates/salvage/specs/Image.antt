@@ -6,12 +6,11 @@ use lib.ListN.{replicate}
 use Rattle.refusals.specs.Refusals.{Refusal, unlessRefused}
 use Rattle.bank.specs.Slot.{slotAt}
 use Rattle.bank.specs.Calls.{wrongLength}
-use Rattle.salvage.specs.declared.Fate.the-variants.{Sound}
 use Rattle.salvage.specs.declared.MendedSlot.{MendedSlot}
 use Rattle.salvage.specs.declared.Ending.{Ending}
 use Rattle.salvage.specs.declared.Ending.the-variants.{Refused, Mended}
 use Rattle.salvage.specs.declared.Salvaged.{Salvaged}
-use Rattle.salvage.specs.Slots.{mendedSlot, told}
+use Rattle.salvage.specs.Slots.{mendedSlot, unaltered, told}
 
 -- ---- slot by slot
 
@@ -19,6 +18,14 @@ use Rattle.salvage.specs.Slots.{mendedSlot, told}
 unfoldable pub eachSlot : {A : Type 0} → (List ℕ → A) → List ℕ → ℕ → ℕ → List A
 eachSlot rule image k zero = []
 eachSlot rule image k (suc n) = rule (slotAt image k) ∷ eachSlot rule image (suc k) n
+
+-- the mended slots, one after another
+abbrev pub mendedImage : List ℕ → List ℕ
+mendedImage image = flatten (eachSlot mendedSlot image 0 16)
+
+-- what is said of the sixteen slots
+abbrev pub toldOf : List ℕ → List MendedSlot
+toldOf image = eachSlot told image 0 16
 
 -- ---- what is answered
 
@@ -37,7 +44,7 @@ said r = ended (r .ending) (r .slots)
 
 -- sixteen times sound, 0
 abbrev pub allSound : List MendedSlot
-allSound = replicate 16 (record { fate = Sound; differing = 0 })
+allSound = replicate 16 unaltered
 
 -- ---- the call
 
@@ -54,11 +61,12 @@ refusing image number = record { answer = record { ending = Refused number; slot
 abbrev pub mendRefusals : List ℕ → List Refusal
 mendRefusals image = wrongLength image ∷ []
 
--- an image of 4096 bytes is mended slot by slot, and the mended slots stand one after another
+-- an image of 4096 bytes is mended slot by slot
+abbrev pub granted : List ℕ → Outcome
+granted image = record { answer = record { ending = Mended; slots = toldOf image }; image = mendedImage image }
+
 unfoldable pub salvaged : List ℕ → Outcome
-salvaged image =
-    unlessRefused (mendRefusals image) (refusing image)
-    (record { answer = record { ending = Mended; slots = eachSlot told image 0 16 }; image = flatten (eachSlot mendedSlot image 0 16) })
+salvaged image = unlessRefused (mendRefusals image) (refusing image) (granted image)
 
 -- what `mend` promises: the answer, and the bytes of the image when it ends
 abbrev pub Mending : List ℕ → Salvaged → List ℕ → Type 0

@@ -46,6 +46,10 @@ differing [] after = 0
 differing (b ∷ before) [] = 0
 differing (b ∷ before) (a ∷ after) = cond (eqb b a) 0 1 + differing before after
 
+-- sound, 0
+abbrev pub unaltered : MendedSlot
+unaltered = record { fate = Sound; differing = 0 }
+
 -- For each slot it says sound, trimmed or closed, and how many of its bytes differ from before
 unfoldable pub told : List ℕ → MendedSlot
 told s = record { fate = fateOf s; differing = differing s (mendedSlot s) }

@@ -3,10 +3,8 @@ mod slot;
 
 use slot::mend_slot;
 ghost use mathlib.Core.Path.{_≡_};
-ghost use mathlib.Core.List.{flatten};
 ghost use lib.ListN.{length};
-ghost use Rattle.salvage.specs.Slots.{mendedSlot, told};
-ghost use Rattle.salvage.specs.Image.{eachSlot, Mending, allSound};
+ghost use Rattle.salvage.specs.Image.{mendedImage, toldOf, allSound, Mending};
 
 // What becomes of a slot.
 pub enum Fate {
@@ -50,9 +48,7 @@ fn all_sound() -> [MendedSlot; 16]
 // The sixteen slots of an image, one after another.
 fn mend_slots(image: &mut [u8]) -> [MendedSlot; 16]
     requires { ⌜ length (now image) ≡ 4096 ⌝ }
-    ensures { λ r. ⌜
-        (r ≡ eachSlot told (now (image .entry)) 0 16) × (now (image .exit) ≡ flatten (eachSlot mendedSlot (now (image .entry)) 0 16))
-        ⌝ }
+    ensures { λ r. ⌜ (r ≡ toldOf (now (image .entry))) × (now (image .exit) ≡ mendedImage (now (image .entry))) ⌝ }
 {
     let mut slots = all_sound();
     let mut k: usize = 0;

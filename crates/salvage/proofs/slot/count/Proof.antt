@@ -7,7 +7,7 @@ use native.Mathlib.Nat.{add-zero}
 use borrow.Author.Needs.{needs}
 use lib.ListN.{length, drop, drop-of-length-le}
 use Rattle.salvage.specs.Slots.{differing}
-use Rattle.salvage.proofs.Copies.{differing-more}
+use Rattle.salvage.proofs.Counts.{differing-more}
 use Rattle.salvage.proofs.slot.count.Statement.{statement}
 use Rattle.salvage.proofs.slot.count.Tie as tie
 

@@ -4,7 +4,7 @@ use mathlib.Core.Path.{_≡_, _∙_, ap}
 use borrow.Author.Needs.{needs}
 use lib.ListN.{length}
 use Rattle.salvage.specs.Slots.{fateOf, leftBy, mendedSlot, differing, told}
-use Rattle.salvage.proofs.Copies.{all-over}
+use Rattle.bank.proofs.Slots.{all-over}
 use Rattle.salvage.proofs.slot.mend_slot.Statement.{statement}
 use Rattle.salvage.proofs.slot.mend_slot.Tie as tie
 

@@ -2,7 +2,7 @@
 use borrow.Author.Needs.{needs}
 use mathlib.Core.Path.{_≡_, _∙_}
 use lib.ListN.{length}
-use Rattle.salvage.proofs.Copies.{all-over}
+use Rattle.bank.proofs.Slots.{all-over}
 use Rattle.salvage.proofs.slot.read.Statement.{statement}
 use Rattle.salvage.proofs.slot.read.Tie as tie
 

@@ -1,20 +1,15 @@
--- Bytes copied over others, and how many bytes differ. Assumes nothing.
+-- How many bytes differ. Assumes nothing.
 use mathlib.Core.Path.{_≡_, refl}
 use mathlib.Core.Bool.{Bool, true, false, cond}
-use mathlib.Core.List.{List, [], _∷_, _++_, append-nil}
+use mathlib.Core.List.{List, [], _∷_}
 use Prim.Native.Nat.{ℕ, suc, _+_, _≤_, _<_}
 use native.Mathlib.Omega.{arith}
-use native.Mathlib.Nat.{le-of-eq}
 use native.Mathlib.Numerals.{add-one}
 use lib.Dec.{eqb}
-use lib.ListN.{length, getD, take, drop, drop-of-length-le}
-use lib.Seq.{take-length, drop-cons}
+use lib.ListN.{length, getD, drop}
+use lib.Seq.{drop-cons}
 use borrow.Author.Tests.{eq-eqb}
 use Rattle.salvage.specs.Slots.{differing}
-
--- all of one list over another that is as long is that list
-pub all-over : (from to : List ℕ) → length to ≡ length from → take (length from) from ++ drop (length from) to ≡ from
-all-over from to e = rw (take-length from, drop-of-length-le to (le-of-eq e)) (append-nil from)
 
 -- nothing differs from itself
 pub differing-none : (s : List ℕ) → differing s s ≡ 0
