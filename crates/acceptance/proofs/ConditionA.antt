@@ -28,6 +28,8 @@ use Rattle.verdict.specs.declared.judging.Verdict.{Verdict}
 use Rattle.verdict.specs.Errors.{errorsOf}
 use Rattle.verdict.specs.Limits.{limitsFor}
 use Rattle.verdict.specs.Judging.{left-out, leftOut, verdictOn, judgement, saidVerdict, refused as verdictRefused, said as verdictSaid}
+use Rattle.frames.specs.declared.Frame.the-variants.{Refused as FrameRefused, Reads}
+use Rattle.frames.specs.Reading.{reading, refused as frameRefused, said as frameSaid}
 use Rattle.refusals.specs.Refusals.{Refusal, unlessRefused}
 use Rattle.acceptance.specs.ConditionA.{Refuses, ConditionA}
 use Rattle.acceptance.proofs.Refusing.{Joins, alone, refuses}
@@ -89,7 +91,7 @@ settles list before after =
     refuses (onBank settled) refused (λ m n e. cc) SettledRefused (λ n. refl) list before after _ Done refl (λ n e. let z : _≡_ {A = ℕ} 0 1 = cc in omega arith)
 
 pub condition-a : ConditionA
-unfolding cleared openedAt pushedAt closedAt salvaged pushed judgement measured headed
+unfolding cleared openedAt pushedAt closedAt salvaged pushed judgement reading measured headed
 condition-a = record {
   clearing = λ bank. settles _ bank _;
   opening = λ bank slot nominal rate soc. settles _ bank _;
@@ -108,6 +110,8 @@ condition-a = record {
   judging = λ class test m device reference.
       let g = judged-granted (leftOut test m) (verdictOn (errorsOf device reference) (limitsFor class test)) in
       alone verdictSaid verdictRefused (λ m n e. cc) JudgedRefused (λ n. refl) _ _ (g .no-refusal) (g .answer) (g .says);
+  reading = λ frame configured tag.
+      alone frameSaid frameRefused (λ m n e. cc) FrameRefused (λ n. refl) _ _ (λ n e. let z : _≡_ {A = ℕ} 0 1 = cc in omega arith) (Reads _ _) refl;
   measuring = λ a b c centre nominal.
       let f = figuresAt threePhase (nominalOf nominal) (sampleAt a b c) centre in
       alone runSaid runRefused (λ m n e. cc) MeasuredRefused (λ n. refl) _ _ (λ n e. let z : _≡_ {A = ℕ} 0 1 = cc in omega arith) (Given f) refl;

@@ -3,6 +3,8 @@ pub mod ConditionA
 pub mod Within
 pub mod ConditionB
 pub mod ConditionC
+pub mod ConditionD
+pub mod SentBack
 pub mod Salvage
 pub mod Figures
 pub mod Document

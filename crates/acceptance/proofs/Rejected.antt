@@ -24,6 +24,10 @@ use Rattle.runs.specs.Runs.{measured, Said as RunSaid, refused as runRefused, f
 use Rattle.verdict.specs.Errors.{errorsOf}
 use Rattle.verdict.specs.Judging.{verdictOn, judgement}
 use Rattle.header.specs.Header.{isMark, versionIn, socIn, headed}
+use Rattle.frames.specs.Checksum.{divided, afterByte, checksum}
+use Rattle.frames.specs.Fields.{figureAt, deviceIn}
+use Rattle.frames.specs.Tags.{apart, agrees}
+use Rattle.frames.specs.Reading.{reading}
 use Rattle.acceptance.specs.Rejected.{RefusesEverything, UselessModels, Slips}
 
 -- ---- what is read off an answer
@@ -82,7 +86,7 @@ same-size : {x y z : ℤ} → x ≡ y → x ≡ z → natAbs y ≡ natAbs z
 same-size p q = ap natAbs (sym p ∙ q)
 
 refuses-everything : RefusesEverything
-unfolding cleared openedAt pushedAt closedAt salvaged slotAt withSlot headIn headBytes placesIn tailIn tailOf feedIn slotOf freeSlot blank stray isDamaged unserved uneven early faulty opened nextHead stored historyOf pushed zeros servedRate keptRate sampleOf placeOf samplesOf withPlace signedIn bits16 isDue answered measured judgement errorsOf verdictOn isMark versionIn socIn headed sum weight offset phaseSum term weighted positive arctan scaled turned step steps noPhase phaseAngle phaseOf secondDifference differences joined phaseAt figuresAt tagged reportAt
+unfolding cleared openedAt pushedAt closedAt salvaged slotAt withSlot headIn headBytes placesIn tailIn tailOf feedIn slotOf freeSlot blank stray isDamaged unserved uneven early faulty opened nextHead stored historyOf pushed zeros servedRate keptRate sampleOf placeOf samplesOf withPlace signedIn bits16 isDue answered measured judgement errorsOf verdictOn isMark versionIn socIn headed checksum afterByte divided figureAt deviceIn apart agrees reading sum weight offset phaseSum term weighted positive arctan scaled turned step steps noPhase phaseAngle phaseOf secondDifference differences joined phaseAt figuresAt tagged reportAt
 refuses-everything = record {
   clearing = λ n after p. omega (arith, answer-is p);
   opening = λ n after p. omega (arith, answer-is p);
@@ -91,6 +95,7 @@ refuses-everything = record {
   salvaging = λ n slots after p. let e = ap (λ (o : Salvage). salvageKind (salvageSaid (o .answer))) p in omega (arith, e);
   feeding = λ n next p. let e = ap (λ (o : Next). kindOf (o .answer)) p in omega (arith, e);
   judging = λ n p. let z : _≡_ {A = ℕ} 0 1 = cc in omega arith;
+  reading = λ n p. let z : _≡_ {A = ℕ} 0 1 = cc in omega arith;
   measuring = λ n p. let e = ap runKind p in omega (arith, e);
   heading = λ n p. let z : _≡_ {A = ℕ} 0 1 = cc in omega arith;
 }

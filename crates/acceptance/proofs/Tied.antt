@@ -11,6 +11,7 @@ use Rattle.bank.proofs.Unique.{clear-unique, open-unique, push-unique, close-un
 use Rattle.salvage.proofs.Unique.{mend-unique}
 use Rattle.runs.proofs.Unique.{measure-unique as run-unique}
 use Rattle.verdict.proofs.Unique.{judge-unique}
+use Rattle.frames.proofs.Unique.{read-frame-unique}
 use Rattle.phs.specs.Stream.{Read}
 use Rattle.phs.proofs.Unique.{start-unique, read-part-unique, finish-unique}
 use Rattle.reads.proofs.Unique.{meaning-unique}
@@ -97,6 +98,9 @@ tied = record {
   verdict-judge-asks-nothing = λ κs a. tt;
   verdict-judge-says = λ κs a r s p. p;
   verdict-judge-unique = λ κs a r q s t. judge-unique (a .0) (a .1 .0) (a .1 .1 .0) (a .1 .1 .1 .0) (a .1 .1 .1 .1 .0) r q;
+  frames-read-frame-asks-nothing = λ κs a. tt;
+  frames-read-frame-says = λ κs a r s p. p;
+  frames-read-frame-unique = λ κs a r q s t. read-frame-unique (now (a .0)) (a .1 .0) (a .1 .1 .0) r q;
   phs-start-asks-nothing = λ κs a. tt;
   phs-start-says = λ κs a r s p. p;
   phs-start-unique = λ κs a r q s t. start-unique r q;

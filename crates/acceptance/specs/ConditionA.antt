@@ -15,6 +15,9 @@ use Rattle.header.specs.Header.{headerRefusals, Heading, refused as headerRefus
 use Rattle.verdict.specs.declared.errors.Device.{Device}
 use Rattle.verdict.specs.declared.errors.Reference.{Reference}
 use Rattle.verdict.specs.Judging.{judgeRefusals, Judging, refused as verdictRefused, said as verdictSaid}
+use Rattle.frames.specs.declared.bench.Configured.{Configured}
+use Rattle.frames.specs.declared.bench.Tag.{Tag}
+use Rattle.frames.specs.Reading.{readRefusals, Reading, refused as frameRefused, said as frameSaid}
 use Rattle.salvage.specs.Image.{mendRefusals, Mending, refused as salvageRefused, said as salvageSaid}
 use Rattle.bank.specs.Calls.{settled, clearRefusals, openRefusals, pushRefusals, closeRefusals, Clearing, Opening, Pushing, Closing}
 
@@ -62,6 +65,9 @@ pub record ConditionA : Type 0 where
   -- judging 10, 11, 9
   pub judging : (class test : ℕ) (m : ℤ) (device : Device) (reference : Reference)
       → Answers verdictSaid verdictRefused (judgeRefusals class test reference) (Judging class test m device reference)
+  -- reading 6, 7, 36, 18, 19, 20, 21, 22, 23, 24
+  pub reading : (frame : List ℕ) (configured : Configured) (tag : Tag)
+      → Answers frameSaid frameRefused (readRefusals frame configured tag) (Reading frame configured tag)
   -- whole run 6, 16, 17
   pub measuring : (a b c : List ℤ) (centre nominal : ℕ)
       → Answers runSaid runRefused (runRefusals a b c centre nominal) (RunMeasuring a b c centre nominal)

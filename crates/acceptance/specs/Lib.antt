@@ -5,6 +5,7 @@ pub mod Runs
 pub mod ConditionB
 pub mod Alone
 pub mod ConditionC
+pub mod ConditionD
 pub mod Salvage
 pub mod Figures
 pub mod Document

@@ -36,6 +36,9 @@ use Rattle.verdict.specs.declared.judging.Judged.the-variants.{Refused as Judge
 use Rattle.verdict.specs.Judging.{Judging}
 use Rattle.header.specs.declared.Header.the-variants.{Refused as HeaderRefused}
 use Rattle.header.specs.Header.{Heading}
+use Rattle.frames.specs.declared.Frame.the-variants.{Refused as FrameRefused}
+use Rattle.frames.specs.Reading.{Reading as FrameReading}
+use Rattle.acceptance.specs.ConditionD.{oneFrame, oneBench, oneTag}
 use Rattle.acceptance.specs.Figures.{device, reference}
 use Rattle.acceptance.specs.Document.{wave, samplesFrom, file}
 
@@ -85,6 +88,7 @@ pub record RefusesEverything : Type 0 where
   pub salvaging : (n : ℕ) (slots : List MendedSlot) (after : List ℕ) → Mending blankBank (record { ending = EndingRefused n; slots = slots }) after → ⊥
   pub feeding : (n : ℕ) (next : Feed) → FeedPushing (opened 60 60 1000) oneTwoThree (record { feed = next; answer = Refused n }) → ⊥
   pub judging : (n : ℕ) → Judging 0 0 (pos 0) (device 10100 0) (reference 10000 0) (JudgedRefused n) → ⊥
+  pub reading : (n : ℕ) → FrameReading oneFrame oneBench oneTag (FrameRefused n) → ⊥
   pub measuring : (n : ℕ) → RunMeasuring twoPeaks silence silence 15 60 (MeasuredRefused n) → ⊥
   pub heading : (n : ℕ) → Heading (take 11 file) (HeaderRefused n) → ⊥
 

@@ -22,6 +22,7 @@ use Rattle.bank.specs.Calls.{Clearing, Opening, Pushing, Closing}
 use Rattle.salvage.specs.Image.{Mending}
 use Rattle.runs.specs.Runs.{RunMeasuring}
 use Rattle.verdict.specs.Judging.{Judging}
+use Rattle.frames.specs.Reading.{Reading as FrameReading}
 use Rattle.phs.specs.Stream.{started, Reading, Finishing}
 use Rattle.reads.specs.Counts.{meaning}
 use Rattle.bits.proofs.be16.Reads as be16Reads
@@ -49,6 +50,7 @@ use Rattle.bank.proofs.«damage_of».Reads as damageReads
 use Rattle.salvage.proofs.mend.Reads as mendReads
 use Rattle.runs.proofs.measure.Reads as runReads
 use Rattle.verdict.proofs.judge.Reads as judgeReads
+use Rattle.frames.proofs.«read_frame».Reads as readFrameReads
 use Rattle.phs.proofs.start.Reads as startReads
 use Rattle.phs.proofs.«read_part».Reads as readPartReads
 use Rattle.phs.proofs.finish.Reads as finishReads
@@ -182,6 +184,11 @@ pub record Tied : Type 0 where
   pub verdict-judge-says : (κs : _) (a : _) (r : _) (s : _) → judgeReads.Post κs a r s
       → Judging (a .0) (a .1 .0) (a .1 .1 .0) (a .1 .1 .1 .0) (a .1 .1 .1 .1 .0) r
   pub verdict-judge-unique : (κs : _) → OneAnswer (judgeReads.Post κs)
+  -- ---- frames
+  -- `read_frame`
+  pub frames-read-frame-asks-nothing : (κs : _) → AsksNothing (readFrameReads.Pre κs)
+  pub frames-read-frame-says : (κs : _) (a : _) (r : _) (s : _) → readFrameReads.Post κs a r s → FrameReading (now (a .0)) (a .1 .0) (a .1 .1 .0) r
+  pub frames-read-frame-unique : (κs : _) → OneAnswer (readFrameReads.Post κs)
   -- ---- phs
   -- `start`
   pub phs-start-asks-nothing : (κs : _) → AsksNothing (startReads.Pre κs)

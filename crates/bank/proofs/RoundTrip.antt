@@ -14,11 +14,11 @@ abbrev pub Bytes : List ℕ → Type 0
 Bytes s = (i : ℕ) → getD s i 0 < 256
 
 -- n elements from the k-th on, spelt out
-abbrev spell : ℕ → ℕ → List ℕ → List ℕ
+abbrev pub spell : ℕ → ℕ → List ℕ → List ℕ
 spell zero k s = []
 spell (suc n) k s = getD s k 0 ∷ spell n (suc k) s
 
-spelt : (n k : ℕ) (s : List ℕ) → k + n ≤ length s → take n (drop k s) ≡ spell n k s
+pub spelt : (n k : ℕ) (s : List ℕ) → k + n ≤ length s → take n (drop k s) ≡ spell n k s
 spelt zero k s h = refl
 spelt (suc n) k s h =
     let lt : k < length s = omega arith in

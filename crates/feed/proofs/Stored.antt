@@ -28,7 +28,7 @@ signed-back (negsuc n) f =
     let e : 2 ^ 16 - suc m ≡ n = omega (arith, f .sfits) in
     rw (le-ltb m (2 ^ 15) (omega (arith, f .sfits)), lt-ltb m (2 ^ 16) (omega arith)) (ap negsuc e)
 
-word-back : (z : ℤ) → SFits w16 z → signed16 (be16 (bits16 z / 256) (bits16 z % 256)) ≡ z
+pub word-back : (z : ℤ) → SFits w16 z → signed16 (be16 (bits16 z / 256) (bits16 z % 256)) ≡ z
 word-back z f =
     let e : be16 (bits16 z / 256) (bits16 z % 256) ≡ bits16 z = omega arith in
     ap signed16 e ∙ signed-back z f
