@@ -1,6 +1,7 @@
 """The lines that the replay program prints for answers."""
 
-from reference import DONE, LEFT_OUT, Figures, Mended, Refused, Taken, Verdict, bits, tag_and_whole_numbers
+from reference import (
+    DONE, LEFT_OUT, Figures, Mended, Reading, Refused, Taken, Verdict, bits, tag_and_whole_numbers)
 
 
 def floats_part(figures):
@@ -37,5 +38,7 @@ def answer_line(answer):
         return report_line(answer.report) if answer.report else "taken"
     if isinstance(answer, Mended):
         return mended_line(answer.fates)
+    if isinstance(answer, Reading):
+        return "reading %d %d %d %d %d" % (*answer.device, answer.quality)
     assert isinstance(answer, Verdict)
     return "verdict %d %d %d" % answer

@@ -1,5 +1,5 @@
-"""The class P model of document 01, with CR 1, CR 2 and CR 3 of document 02, in the order of 01's sections, in exact
-whole numbers."""
+"""The class P model of document 01, with CR 1 to CR 4 of document 02, in the order of 01's sections and then the
+frames of CR 4, in exact whole numbers."""
 
 import math
 import struct
@@ -588,3 +588,93 @@ def listing_lines(data):
 def listing(data):
     """The listing of a file, bytes in and bytes out."""
     return "".join(line + "\n" for line in listing_lines(data)).encode("ascii")
+
+
+# ---------------------------------------------------------------------------
+# The device's own frames (CR 4)
+
+FRAME_BYTES = 26
+FRAME_FORM = ">2sHHIIHhhhhH"
+SYNC = b"\xaa\x01"
+# x^16 + x^12 + x^5 + 1
+POLYNOMIAL = 0x11021
+INITIAL = 0xFFFF
+MOST_TIME_BASE = 16777215
+
+assert struct.calcsize(FRAME_FORM) == FRAME_BYTES
+
+
+class Frame(NamedTuple):
+    """The fields of a data frame, in their order."""
+    sync: bytes
+    size: int
+    id_code: int
+    soc: int
+    fracsec: int
+    stat: int
+    re: int
+    im: int
+    frequency: int
+    rocof: int
+    check: int
+
+
+class Reading(NamedTuple):
+    """The frame's four figures as they are, and the time quality aside."""
+    device: Device
+    quality: int
+
+
+def remainder(dividend):
+    """What the division by the polynomial leaves, bit by bit from the highest; sums are without carries."""
+    while dividend.bit_length() > 16:
+        dividend ^= POLYNOMIAL << (dividend.bit_length() - 17)
+    return dividend
+
+
+def checksum(message):
+    """CRC-CCITT: what the message and 16 zero bits leave, the first 16 bits of both summed with the initial value."""
+    return remainder(int.from_bytes(message, "big") << 16 ^ INITIAL << 8 * len(message))
+
+
+def time_quality(fracsec):
+    """The high byte of FRACSEC."""
+    return fracsec >> 24
+
+
+def parts_of_second(fracsec):
+    """The low 24 bits of FRACSEC, which count TIME_BASE parts of the second."""
+    return fracsec % 2**24
+
+
+def tag_agrees(fields, rate, time_base, soc, frame):
+    """SOC is equal, and FRACSEC × rate differs from frame × TIME_BASE by less than rate."""
+    difference = parts_of_second(fields.fracsec) * rate - frame * time_base
+    return fields.soc == soc and abs(difference) < rate
+
+
+def read_frame(data, nominal, rate, id_code, time_base, soc, frame):
+    """The reading of a data frame: refused 6, 7 (rate 0 too), 36, 18, 19, 20, 21, 22, 23, 24."""
+    if nominal not in SERVED:
+        return Refused(6)
+    if rate not in SERVED[nominal]:
+        return Refused(7)
+    if time_base == 0 or time_base > MOST_TIME_BASE:
+        return Refused(36)
+    if len(data) != FRAME_BYTES:
+        return Refused(18)
+    fields = Frame(*struct.unpack(FRAME_FORM, data))
+    if fields.sync != SYNC:
+        return Refused(19)
+    if fields.size != FRAME_BYTES:
+        return Refused(20)
+    if fields.check != checksum(data[:-2]):
+        return Refused(21)
+    if fields.id_code != id_code:
+        return Refused(22)
+    if fields.stat >> 14 != 0:
+        return Refused(23)
+    if not tag_agrees(fields, rate, time_base, soc, frame):
+        return Refused(24)
+    device = Device(fields.re, fields.im, fields.frequency, fields.rocof)
+    return Reading(device, time_quality(fields.fracsec))

@@ -8,7 +8,7 @@ import sys
 
 from lines import answer_line
 from reference import (
-    Device, Reference, clear, close, judge, open_feed, push, salvage, slot_bytes, whole_run)
+    Device, Reference, clear, close, judge, open_feed, push, read_frame, salvage, slot_bytes, whole_run)
 
 MEMORY_BYTES = 8192
 SLOTS_SHOWN = 32
@@ -24,6 +24,7 @@ ARGUMENTS = {
     b"D": ">B",
     b"W": ">BIBBB",
     b"J": ">BBihhhhhhii",
+    b"F": ">BBHIIIB",
 }
 
 
@@ -91,6 +92,12 @@ def verdict(class_, test, m, *numbers):
     return answer_line(judge(class_, test, m, Device(*numbers[:4]), Reference(*numbers[4:])))
 
 
+def reading(script, *numbers):
+    """The reading of a frame, whose bytes follow the bench's numbers and the length."""
+    *bench, length = numbers
+    return answer_line(read_frame(script.take(length), *bench))
+
+
 def answer(script, memory):
     """The line of the next record, or None where it has none."""
     letter = script.take(1)
@@ -105,6 +112,8 @@ def answer(script, memory):
         return run(script, *arguments)
     if letter == b"J":
         return verdict(*arguments)
+    if letter == b"F":
+        return reading(script, *arguments)
     length, *rest = arguments
     call = {b"C": clear, b"O": open_feed, b"P": push, b"X": close, b"M": salvage}[letter]
     return on_bank(memory, length, call, *rest)

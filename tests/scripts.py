@@ -11,13 +11,14 @@ import collections
 
 from commands import compared, compared_on, dispatch, printed_by
 from files import PIECES, printed_by as printed_in_pieces
-from maker import Maker, record, run_record
+from frame_scenes import BENCH, FRAME_SCENES
+from maker import Maker, agreeing, frame_bytes, frame_record, record, run_record
 from reference import CLOSED, SOUND, TRIMMED
 from replay import ARGUMENTS, new_memory, replay
 from scenes import SCENES
 from traffic import any_traffic
 
-REFUSALS_REACHED = {1, 2, 3, 4, 5, 6, 7, 8, 9, 10, 11, 16, 17}
+REFUSALS_REACHED = {1, 2, 3, 4, 5, 6, 7, 8, 9, 10, 11, 16, 17, 18, 19, 20, 21, 22, 23, 24, 36}
 FATES_REACHED = {SOUND, TRIMMED, CLOSED}
 
 
@@ -28,7 +29,8 @@ def every_record():
     """One record of each kind."""
     return [record(b"C", 4096), record(b"O", 4096, 0, 60, 60, 1000), record(b"P", 4096, 0, 1, 2, 3),
             record(b"X", 4096, 0), record(b"S", 1, 1), record(b"M", 4096), record(b"D", 0),
-            record(b"J", 0, 0, 3, 1, 0, 0, 0, 1, 0, 0, 0), run_record(60, 15, [[1, 2, 3]] * 3)]
+            record(b"J", 0, 0, 3, 1, 0, 0, 0, 1, 0, 0, 0), run_record(60, 15, [[1, 2, 3]] * 3),
+            frame_record(BENCH, frame_bytes(agreeing(BENCH)))]
 
 
 def cut_endings():
@@ -50,7 +52,7 @@ ENDINGS = {"cut": cut_endings, "unknown": unknown_endings}
 def made(seed, calls, ending=None):
     """A script that reaches every edge and then goes on at random."""
     maker = Maker(seed)
-    for scene in SCENES:
+    for scene in SCENES + FRAME_SCENES:
         scene(maker)
     any_traffic(maker, calls)
     if ending:

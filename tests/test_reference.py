@@ -1,14 +1,18 @@
-"""The figures of document 01, of CR 1, of CR 2 and of CR 3 on both sides of each edge, held against the model."""
+"""The figures of document 01 and of CR 1 to CR 4 on both sides of each edge, held against the model."""
 
+import binascii
+import itertools
 import random
 
 from files import document, header
-from maker import FREE, edited, held_slot
+from frame_scenes import ORDER, other_checksums, with_faults, wrapping_tags
+from inputs import served_pairs
+from maker import FREE, Bench, agreeing, any_bench, any_figures, edited, flipped, frame_bytes, held_slot, sealed
 from reference import (
     AFTER_PLACES, BANK_BYTES, CLOSED, DONE, LEFT_OUT, PLACES, SERVED, SLOT_BYTES, SLOTS, SOUND, TRIMMED, Device, Fate,
-    Feed, Mended, Reference, Refused, Taken, Verdict, angle, bits, clear, damage, differences, feed_of, frame_spacing,
-    frequency_deviation, judge, listing, no_phase, open_feed, positive_sequence, push, put_slot, salvage, sampling,
-    slot_bytes, slot_of, whole_run, within_tve)
+    Feed, Frame, Mended, Reading, Reference, Refused, Taken, Verdict, angle, bits, checksum, clear, damage, differences,
+    feed_of, frame_spacing, frequency_deviation, judge, listing, no_phase, open_feed, positive_sequence, push, put_slot,
+    read_frame, salvage, sampling, slot_bytes, slot_of, whole_run, within_tve)
 
 CLASSES = (0, 1)
 STEADY, RAMP = 0, 1
@@ -282,6 +286,182 @@ def pushes_after_salvage():
 
 
 # ---------------------------------------------------------------------------
+# CR 4: a frame written by hand, and what the bench supplies that it agrees with
+
+HAND = bytes.fromhex("aa01 001a 0102 03040506 8b07a120 0000 1122 fedc ff38 0064 74ee")
+FIELDS = Frame(b"\xaa\x01", 26, 258, 50595078, 0x8B07A120, 0, 4386, -292, -200, 100, 0x74EE)
+BENCH = Bench(60, 10, 258, 1000000, 50595078, 5)
+DEVICE = Device(4386, -292, -200, 100)
+
+
+def read(data=HAND, **changed):
+    """What is answered to the bytes of a frame, by the bench of the one written by hand with some numbers changed."""
+    return read_frame(data, *BENCH._replace(**changed))
+
+
+def read_with(**changed):
+    """What is answered to the frame written by hand with some fields changed and its checksum right."""
+    return read(frame_bytes(FIELDS._replace(**changed)))
+
+
+def read_at(time_base, rate, frame, fracsec, soc=0, expected_soc=0, nominal=60):
+    """What is answered to a frame of this tag; None where its figures are read."""
+    bench = Bench(nominal, rate, 258, time_base, expected_soc, frame)
+    answer = read_frame(frame_bytes(FIELDS._replace(soc=soc, fracsec=fracsec)), *bench)
+    return answer if isinstance(answer, Refused) else None
+
+
+AGREES, DISAGREES = None, Refused(24)
+
+
+def known_checksums():
+    """Published vectors, and the standard library's checksum; a message with its checksum leaves nothing."""
+    yield checksum(b"123456789"), 0x29B1
+    yield checksum(b""), 0xFFFF
+    yield checksum(b"A"), 0xB915
+    yield checksum(b"\0"), 0xE1F0
+    yield checksum(b"\0\0"), 0x1D0F
+    yield checksum(b"\xff\xff"), 0
+    yield checksum(HAND[:-2]), 0x74EE
+    rng = random.Random(4)
+    for length in range(64):
+        message = rng.randbytes(length)
+        yield checksum(message), binascii.crc_hqx(message, 0xFFFF)
+        yield checksum(sealed(message)), 0
+
+
+def frame_by_hand():
+    """The four figures as they are, and the time quality aside; read or typed, they meet the same verdict."""
+    yield frame_bytes(FIELDS), HAND
+    yield read(), Reading(DEVICE, 139)
+    for reference in (Reference(4386, -292, -200000, 1000000), Reference(4400, -300, -195000, 1010000),
+                      Reference(4386, -241, -205001, 989999), Reference(0, 0, 0, 0)):
+        yield judge(0, STEADY, 0, read().device, reference), judge(0, STEADY, 0, DEVICE, reference)
+
+
+def read_figures():
+    """Each figure at its extremes and with bytes that differ."""
+    for figures in list(itertools.product((-32768, -1, 0, 32767), repeat=4)) + [(258, 772, 1286, 1800),
+                                                                                 (-258, -772, -1286, -1800)]:
+        yield read(frame_bytes(agreeing(BENCH, figures))), Reading(Device(*figures), 0)
+
+
+def time_qualities():
+    """Any high byte of FRACSEC is answered and has no other effect."""
+    for quality in range(256):
+        yield read_with(fracsec=quality << 24 | 500000), Reading(DEVICE, quality)
+        yield read_with(fracsec=quality << 24 | 500001), DISAGREES
+
+
+def bench_refusals():
+    """6: nominals beside 50 and 60; 7: every rate that is not served, 0 too; 36: TIME_BASE 0 or over 16777215."""
+    data = frame_bytes(FIELDS._replace(fracsec=0))
+    for nominal, rates in {50: (10, 25, 50), 60: (10, 12, 15, 20, 30, 60)}.items():
+        for rate in range(256):
+            wanted = Reading(DEVICE, 0) if rate in rates else Refused(7)
+            yield read(data, nominal=nominal, rate=rate, frame=0), wanted
+    for nominal in (0, 1, 10, 49, 51, 59, 61, 255):
+        yield read(data, nominal=nominal, frame=0), Refused(6)
+    for time_base in (0, 16777216, 16777217, 17777216, 2147483648, 4294967295):
+        yield read(data, time_base=time_base, frame=0), Refused(36)
+    for time_base in (1, 2, 16777214, 16777215):
+        yield read(data, time_base=time_base, frame=0), Reading(DEVICE, 0)
+
+
+def lengths():
+    """18: every length but 26, also where the size field and the checksum are right for it."""
+    for length in range(256):
+        wanted = Reading(DEVICE, 139) if length == 26 else Refused(18)
+        yield read((HAND + bytes(230))[:length]), wanted
+    for length in (25, 27, 28):
+        yield read(sealed((edited(HAND, 2, 0, length)[:-2] + bytes(9))[:length - 2])), Refused(18)
+
+
+def syncs_and_sizes():
+    """19: the sync of other frames and other versions; 20: the size field; the checksum is right."""
+    for second in range(256):
+        yield read_with(sync=bytes([0xAA, second])), Reading(DEVICE, 139) if second == 1 else Refused(19)
+    for sync in (b"\x01\xaa", b"\0\1", b"\x2a\x01", b"\xab\x01", b"\0\0"):
+        yield read_with(sync=sync), Refused(19)
+    for size in (0, 1, 24, 25, 27, 28, 0x1A00, 0x011A, 0x1A1A, 65535):
+        yield read_with(size=size), Refused(20)
+
+
+def changed_bits():
+    """19, 20 and 21: every change of one bit, and of the checksum's bytes; no such frame is accepted."""
+    for bit in range(208):
+        yield read(flipped(HAND, bit)), Refused(19 if bit < 16 else 20 if bit < 32 else 21)
+    rng = random.Random(5)
+    for _ in range(8):
+        bench = any_bench(rng)
+        data = frame_bytes(agreeing(bench, any_figures(rng), rng.randrange(256)))
+        yield isinstance(read_frame(data, *bench), Reading), True
+        yield {read_frame(flipped(data, bit), *bench) for bit in range(32, 208)}, {Refused(21)}
+    for other in other_checksums(HAND):
+        yield read(HAND[:-2] + other.to_bytes(2, "big")), Refused(21)
+
+
+def ids_and_stats():
+    """22: any other ID, on either side; 23: either of STAT's two top bits, and no other."""
+    for other in [0, 2, 257, 259, 513, 65535] + [258 ^ 1 << bit for bit in range(16)]:
+        yield read_with(id_code=other), Refused(22)
+        yield read(id_code=other), Refused(22)
+    for id_code in (0, 255, 256, 65535):
+        yield read(frame_bytes(FIELDS._replace(id_code=id_code)), id_code=id_code), Reading(DEVICE, 139)
+    for stat in [0x3FFF] + [1 << bit for bit in range(14)]:
+        yield read_with(stat=stat), Reading(DEVICE, 139)
+    for stat in (0x4000, 0x8000, 0xC000, 0x7FFF, 0xBFFF, 0xFFFF):
+        yield read_with(stat=stat), Refused(23)
+
+
+def differences_of_tags():
+    """24: at every rate a difference of rate - 1 agrees, one of rate does not, on either side."""
+    for nominal, rate in served_pairs():
+        # TIME_BASE from 1000 × rate, and FRACSEC where frame 1 is expected
+        for further, fracsec, wanted in ((0, 1000, AGREES), (1, 1001, AGREES), (-1, 999, AGREES), (0, 1001, DISAGREES),
+                                         (0, 999, DISAGREES), (1, 999, DISAGREES), (-1, 1001, DISAGREES)):
+            yield read_at(1000 * rate + further, rate, 1, fracsec, nominal=nominal), wanted
+    # 20 × 1000000 = 60 × 333333 + 20 = 60 × 333334 - 40
+    for fracsec, wanted in ((333332, DISAGREES), (333333, AGREES), (333334, AGREES), (333335, DISAGREES)):
+        yield read_at(1000000, 60, 20, fracsec), wanted
+
+
+def tags_beyond_the_second():
+    """24: FRACSEC of TIME_BASE or more and frame of rate or more go by the same sentence."""
+    for time_base, rate, frame, fracsec, wanted in (
+            (1000, 10, 10, 1000, AGREES), (1000, 10, 10, 999, DISAGREES), (1000, 10, 10, 1001, DISAGREES),
+            (1000, 10, 10, 0, DISAGREES), (1000, 10, 0, 1000, DISAGREES), (1000, 10, 25, 2500, AGREES),
+            (1, 60, 0, 0, AGREES), (1, 60, 59, 0, AGREES), (1, 60, 60, 0, DISAGREES), (1, 60, 60, 1, AGREES),
+            (1, 60, 1, 1, AGREES), (1, 60, 0, 1, DISAGREES), (1, 60, 1006632900, 16777215, AGREES),
+            (1, 60, 1006632959, 16777215, AGREES), (1, 60, 1006632960, 16777215, DISAGREES),
+            (16777215, 60, 60, 16777215, AGREES), (16777215, 60, 60, 16777214, DISAGREES)):
+        yield read_at(time_base, rate, frame, fracsec), wanted
+
+
+def tags_of_seconds():
+    """24: SOC s agrees with s alone, also where both tags are the same moment."""
+    for soc, expected in ((1000, 1001), (1001, 1000), (0, 4294967295), (4294967295, 0), (1, 256), (1000, 1000 + 65536)):
+        for frame, fracsec in ((0, 0), (0, 1000), (0, 999), (10, 0), (10, 1000), (9, 1000)):
+            yield read_at(1000, 10, frame, fracsec, soc, expected), DISAGREES
+    for soc in (0, 1000, 2147483648, 4294967295):
+        yield read_at(1000, 10, 10, 1000, soc, soc), AGREES
+
+
+def tags_that_wrap():
+    """24: numbers of which none wraps or loses bits."""
+    for tag in wrapping_tags():
+        yield read_at(*tag), DISAGREES
+
+
+def orders_of_reading():
+    """Each refusal by itself, and every two at once: the first of the order is given."""
+    rng = random.Random(6)
+    for due in [*itertools.combinations(ORDER, 1), *itertools.combinations(ORDER, 2)] * 8:
+        bench, data = with_faults(rng, due)
+        yield read_frame(data, *bench), Refused(due[0])
+
+
+# ---------------------------------------------------------------------------
 # The bank and the whole run
 
 def bank_and_whole_run():
@@ -312,7 +492,9 @@ def bank_and_whole_run():
 CHECKS = (angles, single_samples, wrapped_differences, total_vector_errors, steady_frequency_errors,
           steady_rocof_errors, left_out_intervals, last_second, runs_of_31, whole_listing,
           rate_0_at_opening, rate_0_in_headers, mended_alone, mended_together, refused_salvage,
-          pushes_after_salvage, bank_and_whole_run)
+          pushes_after_salvage, known_checksums, frame_by_hand, read_figures, time_qualities, bench_refusals, lengths,
+          syncs_and_sizes, changed_bits, ids_and_stats, differences_of_tags, tags_beyond_the_second, tags_of_seconds,
+          tags_that_wrap, orders_of_reading, bank_and_whole_run)
 
 
 def main():

@@ -1,22 +1,94 @@
-"""Random calls on the sixteen slots, for replay scripts."""
+"""Random calls, those of the bank on the sixteen slots, for replay scripts."""
 
 import struct
 
-from inputs import HIGH, LOW, any_run, any_wave, opening_pairs
-from maker import FREE, LENGTHS, edited
-from reference import BANK_BYTES, FIRST_PLACE, LAST_SOC, SLOT_BYTES, SLOTS, damage, is_open, sampling, slot_bytes
+from inputs import any_run, any_wave, clipped, opening_pairs
+from maker import FREE, LENGTHS, agreeing, any_bench, any_figures, edited, flipped, frame_bytes, sealed
+from reference import (
+    BANK_BYTES, FIRST_PLACE, FRAME_BYTES, LAST_SOC, SLOT_BYTES, SLOTS, damage, is_open, sampling, slot_bytes)
+
+
+def judge_closely(maker, device):
+    """A judging of a device's figures by a reference close to them, or not."""
+    rng = maker.rng
+    re, im, frequency, rocof = device
+    reference = (clipped(re + rng.randint(-400, 400)), clipped(im + rng.randint(-400, 400)),
+                 1000 * frequency + rng.randint(-12000, 12000), 10000 * rocof + rng.randint(-120000, 120000))
+    maker.judge(rng.choice((0, 1, 0, 1, 2)), rng.choice((0, 1, 0, 1, 2)), rng.randint(-4, 5), device, reference)
 
 
 def any_judging(maker):
-    """A judging of numbers close to each other, or not."""
+    """A judging of any figures."""
+    judge_closely(maker, any_figures(maker.rng))
+
+
+def any_reading(maker):
+    """A reading of a frame at the expected tag or beside it, most often judged if its figures are read."""
     rng = maker.rng
-    re, im = rng.randint(LOW, HIGH), rng.randint(LOW, HIGH)
-    device = [max(LOW, min(HIGH, part + rng.randint(-400, 400))) for part in (re, im)]
-    frequency, rocof = [rng.choice((rng.randint(-99, 99), rng.randint(LOW, HIGH))) for _ in range(2)]
-    reference = (re, im, 1000 * frequency + rng.randint(-12000, 12000),
-                 10000 * rocof + rng.randint(-120000, 120000))
-    maker.judge(rng.choice((0, 1, 0, 1, 2)), rng.choice((0, 1, 0, 1, 2)), rng.randint(-4, 5),
-                (*device, frequency, rocof), reference)
+    bench, figures = any_bench(rng), any_figures(rng)
+    fields = agreeing(bench, figures, rng.randrange(256))
+    late = rng.choice((0, 0, 0, 0, 1, 1, 2, -1))
+    maker.read(bench, frame_bytes(fields._replace(fracsec=(fields.fracsec + late) % 2**32,
+                                                  stat=rng.choice((0, rng.randrange(2**14))))))
+    if maker.lines[-1].startswith("reading") and rng.random() < 0.6:
+        judge_closely(maker, figures)
+
+
+def with_changed_bit(rng, bench, data):
+    """A bit of the frame is changed."""
+    return bench, flipped(data, rng.randrange(8 * FRAME_BYTES))
+
+
+def with_changed_byte(rng, bench, data):
+    """A byte of the frame is changed, and half the time the checksum with it."""
+    changed = edited(data, rng.randrange(FRAME_BYTES - 2), rng.randrange(256))
+    return bench, rng.choice((changed, sealed(changed[:-2])))
+
+
+def with_changed_field(rng, bench, data):
+    """A field is changed by one, by a bit or to anything, and the checksum with it."""
+    at, width = rng.choice(((0, 2), (2, 2), (4, 2), (6, 4), (10, 4), (14, 2), (16, 2), (18, 2), (20, 2), (22, 2)))
+    value = int.from_bytes(data[at:at + width], "big")
+    most = 256**width
+    other = rng.choice((value + 1, value - 1, value ^ 1 << rng.randrange(8 * width), rng.randrange(most))) % most
+    return bench, sealed(edited(data, at, *other.to_bytes(width, "big"))[:-2])
+
+
+def with_changed_bench(rng, bench, data):
+    """A number of the bench is changed, by one or to anything."""
+    name, most = rng.choice((("nominal", 255), ("rate", 255), ("id_code", 65535), ("time_base", LAST_SOC),
+                             ("soc", LAST_SOC), ("frame", LAST_SOC), ("frame", 255)))
+    value = getattr(bench, name)
+    other = rng.choice((value + 1, value - 1, 0, rng.randint(0, most)))
+    return bench._replace(**{name: other % (most + 1)}), data
+
+
+def with_turned_second(rng, bench, data):
+    """The bench expects the same moment, told from the second before."""
+    return bench._replace(soc=(bench.soc - 1) % 2**32, frame=bench.frame + bench.rate), data
+
+
+def with_changed_length(rng, bench, data):
+    """The frame is cut short or goes on."""
+    return bench, rng.choice((data[:rng.randrange(FRAME_BYTES)], data + rng.randbytes(rng.randint(1, 229))))
+
+
+FRAME_CHANGES = (with_changed_bit, with_changed_byte, with_changed_field, with_changed_field, with_changed_bench,
+                 with_turned_second, with_changed_length)
+
+
+def any_changed_reading(maker):
+    """A reading with one thing changed."""
+    rng = maker.rng
+    bench = any_bench(rng)
+    data = frame_bytes(agreeing(bench, any_figures(rng), rng.randrange(256)))
+    maker.read(*rng.choice(FRAME_CHANGES)(rng, bench, data))
+
+
+def any_readings(maker):
+    """Frames in a row, sound and not."""
+    for _ in range(maker.rng.randint(1, 12)):
+        maker.rng.choice((any_reading, any_reading, any_changed_reading))(maker)
 
 
 def any_whole_run(maker):
@@ -112,7 +184,7 @@ def any_show(maker):
 
 
 TRAFFIC = {any_pushes: 30, any_opening: 12, any_closing: 3, any_damage: 6, any_salvage: 2, any_moment: 4, any_show: 12,
-           any_judging: 40, any_whole_run: 8, any_length: 2}
+           any_judging: 40, any_readings: 20, any_whole_run: 8, any_length: 2}
 
 
 def any_traffic(maker, calls):

@@ -2,12 +2,17 @@
 use crate::lines::put_bytes;
 use crate::lines::put_salvaged;
 use crate::script::byte_at;
+use crate::script::frame_length;
 use crate::script::i16_at;
 use crate::script::i32_at;
 use crate::script::u16_at;
 use crate::script::u32_at;
+use crate::up_to;
 use bank::Settled;
 use feed::Answer;
+use frames::Configured;
+use frames::Frame;
+use frames::Tag;
 use model::Sample;
 use runs::Measured;
 use verdict::Device;
@@ -147,4 +152,24 @@ pub(crate) fn judge(script: &[u8]) -> Judged {
         rocof: i32_at(script, 23),
     };
     verdict::judge(class, test, m, device, reference)
+}
+
+// `F`: nominal, rate, ID, TIME_BASE, SOC, frame, length, then the frame's bytes.
+pub(crate) fn read(script: &[u8]) -> Frame {
+    let nominal = byte_at(script, 1);
+    let rate = byte_at(script, 2);
+    let id = u16_at(script, 3);
+    let time_base = u32_at(script, 5);
+    let configured = Configured {
+        nominal,
+        rate,
+        id,
+        time_base,
+    };
+    let soc = u32_at(script, 9);
+    let frame = u32_at(script, 13);
+    let tag = Tag { soc, frame };
+    let end = up_to(frame_length(script), script.len());
+    let start = up_to(18, end);
+    frames::read_frame(&script[start..end], configured, tag)
 }

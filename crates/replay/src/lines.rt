@@ -2,6 +2,7 @@
 use bank::Settled;
 use feed::Answer;
 use feed::Report;
+use frames::Frame;
 use model::Figures;
 use runs::Measured;
 use salvage::Ending;
@@ -9,6 +10,7 @@ use salvage::Fate;
 use salvage::MendedSlot;
 use salvage::Salvaged;
 use text::Word;
+use verdict::Device;
 use verdict::Judged;
 ghost use Prim.Native.Nat.{_+_, _≤_};
 ghost use lib.ListN.{length};
@@ -147,6 +149,20 @@ pub(crate) fn put_judged(j: Judged, out: &mut [u8], at: usize) -> usize
     }
 }
 
+// `reading re im freq rocof quality` or `refused N`
+pub(crate) fn put_frame(f: Frame, out: &mut [u8], at: usize) -> usize
+    requires { ⌜ at + 1024 ≤ length (now out) ⌝ }
+    ensures { λ r. ⌜ r ≤ length (now (out .exit)) ⌝ }
+{
+    match f {
+        Frame::Refused(n) => put_refused(n, out, at),
+        Frame::Reads { device, quality } => {
+            let words = reading_words(device, quality);
+            put(b"reading % % % % %\n", words, out, at)
+        }
+    }
+}
+
 // 1 within, 0 not.
 fn within(is_within: bool) -> Word {
     if is_within {
@@ -180,6 +196,11 @@ fn whole(z: i32) -> Word {
     Word::Whole(z as i64)
 }
 
+// A device's figure, of 16 bits.
+fn figure(z: i16) -> Word {
+    whole(z as i32)
+}
+
 // The words of a report: SOC, frame, re, im, d1, d2, mark, and the four floats' bits.
 fn report_words(r: Report) -> [Word; 11] {
     [
@@ -209,6 +230,23 @@ fn figures_words(f: Figures) -> [Word; 11] {
         bits(f.im_peak),
         bits(f.deviation),
         bits(f.rocof),
+        Word::Blank,
+        Word::Blank,
+    ]
+}
+
+// The words of a reading: the device's four figures, and the time quality.
+fn reading_words(device: Device, quality: u8) -> [Word; 11] {
+    [
+        figure(device.re),
+        figure(device.im),
+        figure(device.deviation),
+        figure(device.rocof),
+        Word::Number(quality as u64),
+        Word::Blank,
+        Word::Blank,
+        Word::Blank,
+        Word::Blank,
         Word::Blank,
         Word::Blank,
     ]

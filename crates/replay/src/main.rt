@@ -70,6 +70,7 @@ fn run(script: &[u8], memory: &mut [u8], out: &mut [u8], at: usize) -> usize
         b'D' => calls::show(script, memory, out, at),
         b'W' => lines::put_measured(calls::measure(script), out, at),
         b'J' => lines::put_judged(calls::judge(script), out, at),
+        b'F' => lines::put_frame(calls::read(script), out, at),
         // not reached: its length is 0
         _ => at,
     }
@@ -147,7 +148,7 @@ fn read_on(memory: &mut [u8], input: &mut [u8], held: usize, out: &mut [u8], tex
 }
 
 // The number, or the most that there is room for.
-fn up_to(n: usize, most: usize) -> usize
+pub(crate) fn up_to(n: usize, most: usize) -> usize
     ensures { λ r. ⌜ r ≤ most ⌝ }
 {
     if n < most { n } else { most }

@@ -56,6 +56,7 @@ pub(crate) fn length_of(script: &[u8]) -> usize {
         b'D' => 2,
         b'W' => run_length(script),
         b'J' => 27,
+        b'F' => frame_length(script),
         _ => 0,
     }
 }
@@ -66,4 +67,9 @@ fn run_length(script: &[u8]) -> usize {
     let b = byte_at(script, 7) as usize;
     let c = byte_at(script, 8) as usize;
     9 + 2 * (a + b + c)
+}
+
+// The length of a frame's record: its bytes follow their number.
+pub(crate) fn frame_length(script: &[u8]) -> usize {
+    18 + byte_at(script, 17) as usize
 }
