@@ -2,22 +2,22 @@
 use mathlib.Core.Path.{_≡_, refl, sym, ap, ap₂, _∙_, subst}
 use mathlib.Core.Bool.{Bool, true, false, not, _||_}
 use mathlib.Core.List.{List}
-use Prim.Native.Nat.{ℕ, _+_, _*_, _/_, _%_, _^_, _≤_, _<_}
+use Prim.Native.Nat.{ℕ, _+_, _*_, _/_, _^_, _≤_, _<_}
 use native.Mathlib.Nat.{div-eq-of-lt}
 use native.Mathlib.Omega.{arith}
 use borrow.Author.Tests.{eq-eqb, ne-eqb, eqb-true, eqb-false, lt-ltb, le-ltb, ltb-true, ltb-false, not-false}
-use lib.Arith.{digits-lt, digits-mod}
+use lib.Arith.{digits-mod}
 use lib.Dec.{eqb}
 use lib.IntN.{pos}
 use lib.ListN.{length, getD, set, take}
 use lib.Seq.{getD-set-same, getD-set-other, take-set-le, take-set-lt, getD-take, length-take-le}
-use Rattle.bits.specs.Bits.{be16, be32, signedIn}
+use Rattle.bits.specs.Bits.{be16, signedIn}
+use Rattle.bits.proofs.Bytes.{word-back, long-back, number-back}
 use Rattle.sampling.specs.Tags.{servedRate}
 use Rattle.ints.proofs.Cases.{both-true}
 use Rattle.feed.proofs.Sound.{neither}
 use Rattle.bank.proofs.Blank.{both-true as both-of}
 use Rattle.refusals.specs.Refusals.{unlessRefused}
-use Rattle.feed.proofs.Stored.{word-back}
 use Rattle.verdict.specs.declared.errors.Device.{Device}
 use Rattle.verdict.proofs.Unique.{judge-unique}
 use Rattle.verdict.specs.Judging.{Judging}
@@ -71,13 +71,6 @@ agreeing s {configured} {tag} e =
 or-false : {a b : Bool} → a ≡ false → b ≡ false → (a || b) ≡ false
 or-false p q = ap₂ (λ (x y : Bool). x || y) p q
 
--- a number's bytes, put together again
-word : (n : ℕ) → be16 (n / 256) (n % 256) ≡ n
-word n = omega arith
-
-long : (n : ℕ) → n < 2 ^ 32 → be32 (n / 16777216) (n / 65536 % 256) (n / 256 % 256) (n % 256) ≡ n
-long n h = omega arith
-
 -- FRACSEC's 32 bits: the time quality, and the low 24
 module _ (s : Sent) where
   abbrev fraction : ℕ
@@ -88,20 +81,20 @@ module _ (s : Sent) where
 
   -- each field of the frame is what was sent
   soc-sent : socIn (frameOf s) ≡ s .soc
-  soc-sent = long (s .soc) (s .soc-range)
+  soc-sent = long-back (s .soc)
 
   fracsec-sent : fracsecIn (frameOf s) ≡ s .fracsec
-  fracsec-sent = ap low24 (long fraction (digits-lt (s .quality-range) (s .fracsec-range))) ∙ digits-mod (s .quality) (s .fracsec-range)
+  fracsec-sent = ap low24 (long-back fraction) ∙ digits-mod (s .quality) (s .fracsec-range)
 
   figures-sent : figuresIn (frameOf s) ≡ figures (figuresOf s) (s .quality)
   unfolding deviceIn figureAt
   figures-sent i =
       figures
       (record {
-        re = word-back (s .re .number) (s .re .range) i;
-        im = word-back (s .im .number) (s .im .range) i;
-        deviation = word-back (s .freq .number) (s .freq .range) i;
-        rocof = word-back (s .dfreq .number) (s .dfreq .range) i;
+        re = number-back (s .re .number) (s .re .range) i;
+        im = number-back (s .im .number) (s .im .range) i;
+        deviation = number-back (s .freq .number) (s .freq .range) i;
+        rocof = number-back (s .dfreq .number) (s .dfreq .range) i;
       })
       (high-byte i)
 
@@ -109,9 +102,9 @@ module _ (s : Sent) where
     none-refused : NoneDue (readRefusals (frameOf s) configured tag)
     none-refused =
         let base = or-false (ne-eqb (configured .«time_base») 0 (λ z. omega (arith, e .time-base-from, z))) (le-ltb 16777215 _ (e .time-base-to)) in
-        let checked = ap not (eq-eqb _ _ (word (checksum (bytesBefore s)))) in
-        let named = ap not (eq-eqb _ _ (word (s .id) ∙ e .id)) in
-        let stat = ap topBitsSet (word (s .stat)) ∙ ap not (eq-eqb _ _ (div-eq-of-lt (s .stat-range))) in
+        let checked = ap not (eq-eqb _ _ (word-back (checksum (bytesBefore s)))) in
+        let named = ap not (eq-eqb _ _ (word-back (s .id) ∙ e .id)) in
+        let stat = ap topBitsSet (word-back (s .stat)) ∙ ap not (eq-eqb _ _ (div-eq-of-lt (s .stat-range))) in
         let tagged = ap not (ap₂ (λ (m n : ℕ). agrees m n configured tag) soc-sent fracsec-sent ∙ agreeing s e) in
         (ap not (e .nominal), (ap not (e .rate), (base, (refl, (refl, (refl, (checked, (named, (stat, (tagged, tt))))))))))
 

@@ -2,7 +2,7 @@
 use mathlib.Core.Path.{_≡_, refl, sym, _∙_}
 use mathlib.Core.Bool.{true, false, not, _&&_, _||_}
 use mathlib.Core.List.{List, _++_, append-assoc}
-use Prim.Native.Nat.{ℕ, _*_, _/_, _%_}
+use Prim.Native.Nat.{ℕ, _*_}
 use native.Mathlib.Omega.{arith}
 use lib.Dec.{ltb}
 use lib.ListN.{length, drop, length-append, length-drop, length-replicate}
@@ -10,7 +10,7 @@ use lib.Seq.{take-at, drop-at, length-take-le}
 use borrow.Author.Tests.{eqb-false, eq-eqb, ltb-false, not-false}
 use Rattle.feed.specs.declared.Head.{Head}
 use Rattle.feed.specs.declared.Feed.{Feed}
-use Rattle.bits.specs.Bits.{be16, be32}
+use Rattle.bits.proofs.Bytes.{word-back, long-back}
 use Rattle.feed.specs.Places.{zeros}
 use Rattle.feed.specs.Ring.{faulty}
 use Rattle.feed.proofs.Sound.{neither}
@@ -38,10 +38,7 @@ tail-length f = length-replicate {A = ℕ} 59 0
 head-back : (h : Head) (rest : List ℕ) → headIn (headBytes h ++ rest) ≡ h
 unfolding headIn headBytes
 head-back h rest =
-    let n : ℕ = h .soc in
-    let s : be32 (n / 16777216) (n / 65536 % 256) (n / 256 % 256) (n % 256) ≡ n = omega arith in
-    let i : be16 (h .index / 256) (h .index % 256) ≡ h .index = omega arith in
-    λ d. record { nominal = h .nominal; rate = h .rate; held = h .held; soc = s d; index = i d; place = h .place }
+    λ d. record { nominal = h .nominal; rate = h .rate; held = h .held; soc = long-back (h .soc) d; index = word-back (h .index) d; place = h .place }
 
 module _ (f : Feed) (whole : length (f .places) ≡ 186) where
   places-back : placesIn (slotOf f) ≡ f .places

@@ -1,11 +1,11 @@
 -- An open slot with a tail of zeros is the slot of the feed that it keeps: part by part. Assumes nothing.
 use mathlib.Core.Path.{_≡_, refl, sym, _∙_}
-use mathlib.Core.List.{List, [], _∷_}
-use Prim.Native.Nat.{ℕ, zero, suc, _+_, _/_, _%_, _≤_, _<_}
+use mathlib.Core.List.{List, [], _∷_, _++_}
+use Prim.Native.Nat.{ℕ, zero, suc, _+_, _≤_, _<_}
 use native.Mathlib.Omega.{arith}
 use lib.ListN.{length, getD, take, drop, take-append-drop}
 use lib.Seq.{drop-drop, drop-cons}
-use Rattle.bits.specs.Bits.{be16, be32}
+use Rattle.bits.proofs.Bytes.{bytes-of-word, bytes-of-long}
 use Rattle.feed.specs.Places.{zeros}
 use Rattle.bank.specs.Slot.{stateIn, headIn, headBytes, placesIn, tailIn, tailOf, feedIn, slotOf}
 
@@ -28,15 +28,10 @@ module _ (s : List ℕ) (size : length s ≡ 256) (bytes : Bytes s) (one : state
   head-put : headBytes (headIn s) ≡ take 11 s
   unfolding headBytes headIn
   head-put =
-      let n : ℕ = be32 (getD s 4 0) (getD s 5 0) (getD s 6 0) (getD s 7 0) in
-      let m : ℕ = be16 (getD s 8 0) (getD s 9 0) in
-      let b4 : n / 16777216 ≡ getD s 4 0 = omega (arith, bytes 4, bytes 5, bytes 6, bytes 7) in
-      let b5 : n / 65536 % 256 ≡ getD s 5 0 = omega (arith, bytes 4, bytes 5, bytes 6, bytes 7) in
-      let b6 : n / 256 % 256 ≡ getD s 6 0 = omega (arith, bytes 4, bytes 5, bytes 6, bytes 7) in
-      let b7 : n % 256 ≡ getD s 7 0 = omega (arith, bytes 4, bytes 5, bytes 6, bytes 7) in
-      let b8 : m / 256 ≡ getD s 8 0 = omega (arith, bytes 8, bytes 9) in
-      let b9 : m % 256 ≡ getD s 9 0 = omega (arith, bytes 8, bytes 9) in
-      rw (b4, b5, b6, b7, b8, b9) (sym (spelt 11 0 s (omega arith) ∙ rw one))
+      let soc = bytes-of-long _ _ (bytes 4) (bytes 5) _ _ (bytes 6) (bytes 7) in
+      let index = bytes-of-word _ _ (bytes 8) (bytes 9) in
+      (λ i. sym one i ∷ getD s 1 0 ∷ getD s 2 0 ∷ getD s 3 0 ∷ (soc i ++ (index i ++ (getD s 10 0 ∷ []))))
+      ∙ sym (spelt 11 0 s (omega arith))
 
   pub slot-back : tailIn s ≡ zeros 59 → slotOf (feedIn s) ≡ s
   unfolding slotOf feedIn placesIn tailOf tailIn

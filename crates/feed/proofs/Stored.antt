@@ -1,17 +1,15 @@
 -- A sample put in a place is read there, and every other place is as it was: `samplesOf` of the places is then `set`.
-use mathlib.Core.Path.{_≡_, refl, ap, _∙_}
+use mathlib.Core.Path.{_≡_, refl, ap}
 use mathlib.Core.List.{List, _∷_, _++_, append-assoc}
-use Prim.Native.Nat.{ℕ, zero, suc, _+_, _-_, _*_, _/_, _%_, _^_, _≤_, _<_}
+use Prim.Native.Nat.{ℕ, zero, suc, _+_, _-_, _*_, _≤_, _<_}
 use native.Mathlib.Nat.{le-of-suc-le-suc}
 use native.Mathlib.Omega.{arith}
 use lib.ListN.{length, take, drop, set, length-append, length-take, length-drop}
 use lib.Seq.{take-at, drop-at, take-add, drop-drop, length-take-le}
-use borrow.Author.Tests.{lt-ltb, le-ltb}
-use lib.IntN.{ℤ, pos, negsuc}
 use mir.Syntax.{w16}
 use mir.Val.{SFits}
 use Rattle.model.specs.declared.filter.Sample.{Sample}
-use Rattle.bits.specs.Bits.{be16, signedIn, signed16, bits16}
+use Rattle.bits.proofs.Bytes.{number-back}
 use Rattle.feed.specs.Places.{sampleOf, placeOf, samplesOf, withPlace}
 
 -- the three numbers of a sample are signed 16-bit numbers
@@ -20,26 +18,13 @@ pub record Fits16 (s : Sample) : Type 0 where
   pub b-fits : SFits w16 (s .b)
   pub c-fits : SFits w16 (s .c)
 
-signed-back : (z : ℤ) → SFits w16 z → signed16 (bits16 z) ≡ z
-unfolding signedIn bits16
-signed-back (pos n) f = rw (lt-ltb n (2 ^ 15) (f .sfits))
-signed-back (negsuc n) f =
-    let m : ℕ = 2 ^ 16 - suc n in
-    let e : 2 ^ 16 - suc m ≡ n = omega (arith, f .sfits) in
-    rw (le-ltb m (2 ^ 15) (omega (arith, f .sfits)), lt-ltb m (2 ^ 16) (omega arith)) (ap negsuc e)
-
-pub word-back : (z : ℤ) → SFits w16 z → signed16 (be16 (bits16 z / 256) (bits16 z % 256)) ≡ z
-word-back z f =
-    let e : be16 (bits16 z / 256) (bits16 z % 256) ≡ bits16 z = omega arith in
-    ap signed16 e ∙ signed-back z f
-
 pub place-length : (s : Sample) → length (placeOf s) ≡ 6
 unfolding placeOf
 place-length s = refl
 
 sample-back : (s : Sample) → Fits16 s → sampleOf (placeOf s) ≡ s
 unfolding sampleOf placeOf
-sample-back s f i = record { a = word-back (s .a) (f .a-fits) i; b = word-back (s .b) (f .b-fits) i; c = word-back (s .c) (f .c-fits) i }
+sample-back s f i = record { a = number-back (s .a) (f .a-fits) i; b = number-back (s .b) (f .b-fits) i; c = number-back (s .c) (f .c-fits) i }
 
 pub with-length : (p : List ℕ) (k : ℕ) (s : Sample) → 6 * k + 6 ≤ length p → length (withPlace p k s) ≡ length p
 unfolding withPlace
