@@ -12,12 +12,14 @@ import random
 import struct
 import tempfile
 
+from centres import one_at_the_edge
 from commands import dispatch, feed, tallied
-from inputs import any_sample, any_wave, opening_pairs, sample_at, steady_wave
+from inputs import any_sample, any_stretch, dead_noise, opening_pairs, sample_at, steady_wave
 from reference import (
-    HEADER_BYTES, LAST_SOC, SAMPLE_BYTES, SERVED, VERSIONS, cos, kept_rate, listing, passed_rate, sampling)
+    HEADER_BYTES, LAST_SOC, SERVED, VERSIONS, cos, kept_rate, listing, passed_rate, sampling)
 
 PIECES = (None, 1, 4095, 65537)
+AMPLITUDE = 20000
 
 
 # ---------------------------------------------------------------------------
@@ -39,10 +41,9 @@ def any_soc(rng):
 
 
 def any_body(rng, nominal, count):
-    """The bytes of so many samples of a wave or of anything."""
-    if rng.random() < 0.6:
-        return body(any_wave(rng, nominal, count))
-    return body([any_sample(rng) for _ in range(count)])
+    """The bytes of so many samples: a wave, anything, noise or a dead feeder, in turn where they are many."""
+    stretches = [any_stretch(rng, nominal, min(300, count - at)) for at in range(0, count, 300)]
+    return b"".join(map(body, stretches))
 
 
 # ---------------------------------------------------------------------------
@@ -97,9 +98,44 @@ def bare_headers():
             yield header(nominal, rate, version=version)
 
 
+def dead_feeder(nominal, rate, seconds, *amplitudes):
+    """The leads are off: noise of each of these amplitudes, one after the other."""
+    rng = random.Random(5)
+    count = int(seconds * sampling(nominal)) // len(amplitudes)
+    return header(nominal, rate) + body([sample for most in amplitudes for sample in dead_noise(rng, count, most)])
+
+
+def dies_and_comes_back(nominal, rate, seconds):
+    """The nominal frequency, but noise of two counts in the second third."""
+    third = int(seconds * sampling(nominal)) // 3
+    wave = steady_wave(nominal, nominal, AMPLITUDE, 3 * third)
+    return header(nominal, rate) + body(wave[:third] + dead_noise(random.Random(6), third) + wave[2 * third:])
+
+
+def edge_cases():
+    """Each centre at both sides of the edge of phase, each part and sign, at the centres of reports."""
+    return list(one_at_the_edge(random.Random(2015), (0,)))
+
+
+def edge_of_phase():
+    """The cases as reports 45 samples apart, one after the other; no report sees the samples between their windows."""
+    rng = random.Random(2016)
+    samples = [any_sample(rng) for _ in range(16)]
+    for case in edge_cases():
+        samples += [any_sample(rng) for _ in range(14)] + case.samples
+    return header(60, 20) + body(samples)
+
+
+def phases():
+    """Dead feeders, and both sides of the edge of phase."""
+    yield dead_feeder(60, 10, 1, 0, 1, 2, 3)
+    yield dies_and_comes_back(50, 25, 1)
+    yield edge_of_phase()
+
+
 def edges():
     """Every file of the makers above."""
-    return [data for maker in (wrong_headers, cut_headers, cut_samples, last_seconds, bare_headers)
+    return [data for maker in (wrong_headers, cut_headers, cut_samples, last_seconds, bare_headers, phases)
             for data in maker()]
 
 
@@ -186,9 +222,6 @@ def files(seed, count):
 # ---------------------------------------------------------------------------
 # Examples
 
-AMPLITUDE = 20000
-
-
 def steady(nominal, rate, seconds):
     """The nominal frequency throughout."""
     return off_nominal(nominal, rate, seconds, 0)
@@ -231,6 +264,8 @@ def example_files():
         "cut_short": steady(60, 10, 0.4)[:-2],
         "rate_0_version_1": off_nominal(50, 0, 0.3, 0.5, version=1),
         "rate_0_version_2": off_nominal(50, 0, 0.3, 0.5, version=2),
+        "dead_feeder": dead_feeder(50, 50, 0.3, 2),
+        "dies_and_comes_back": dies_and_comes_back(60, 30, 0.7),
     }
 
 
@@ -245,12 +280,13 @@ ENDINGS = (b"unread\n", b"unwritten\n", b"unwritten\n", b"no room\n", b"no room\
 
 
 def gone_on_with(seed, data, nominal, length):
-    """A file gone on with to so many bytes or more: waves, noise and silence. Each read of 65536 bytes ends inside a
-    sample."""
+    """A file gone on with to so many bytes or more: waves, noise, dead feeders and silence. Each read of 65536 bytes
+    ends inside a sample."""
     rng = random.Random(seed)
     while len(data) < length:
-        count = rng.randint(40, 900)
-        data += rng.choice((any_body(rng, nominal, count), bytes(SAMPLE_BYTES * count)))
+        count = rng.randint(40, 400)
+        data += body(rng.choice((any_stretch(rng, nominal, count), any_stretch(rng, nominal, count),
+                                 dead_noise(rng, count), [(0, 0, 0)] * count)))
     return data
 
 
@@ -282,6 +318,9 @@ def stored_files():
         "sixty_rate_0_version_1": off_nominal(60, 0, 0.4, 0.25, version=1),
         "fifty_rate_0_version_2": off_nominal(50, 0, 0.4, 0.25, version=2),
         "sixty_rate_0_version_2": off_nominal(60, 0, 0.4, 0.25, version=2),
+        # no phase, and both sides of the edge of phase
+        "dead": dead_feeder(50, 50, 0.6, 1, 2),
+        "edge_of_phase": edge_of_phase(),
         # refused 15, and 8 with more than 65536 bytes after it
         "sample_cut": ramp(60, 30, 0.4, 2.0)[:-3],
         "last_second": header(60, 60, LAST_SOC) + body(steady_wave(60, 59.5, AMPLITUDE, 12000)),

@@ -33,14 +33,19 @@ def steady_wave(nominal, frequency, amplitude, count, turns=0.0, order=1):
 
 
 def any_wave(rng, nominal, count):
-    """Positive sequence of any frequency from 40 to 70 Hz."""
-    amplitude = rng.choice((2, 500, 20000, HIGH))
+    """Positive sequence of any frequency from 40 to 70 Hz, sometimes of two counts or about four, most often more."""
+    amplitude = rng.choice((2, 4, 5, 300, 20000, 20000, HIGH, HIGH))
     return steady_wave(nominal, rng.uniform(40, 70), amplitude, count, rng.random())
 
 
 def noise_sample(rng, amplitude):
     """A sample of noise."""
     return tuple(rng.randint(-amplitude, amplitude) for _ in range(3))
+
+
+def dead_noise(rng, count, amplitude=2):
+    """Samples of a dead feeder, of two counts at most or of another amplitude."""
+    return [noise_sample(rng, amplitude) for _ in range(count)]
 
 
 def rail_sample(rng):
@@ -50,11 +55,21 @@ def rail_sample(rng):
 
 def any_sample(rng):
     """A sample of rails, or of noise of any amplitude."""
-    amplitude = rng.choice((None, 1, 300, 20000, HIGH))
+    amplitude = rng.choice((None, 2, 40, 300, 20000, HIGH))
     return noise_sample(rng, amplitude) if amplitude else rail_sample(rng)
 
 
-def any_run(rng, length):
-    """A run of one phase of noise."""
-    amplitude = rng.choice((1, 500, HIGH))
-    return [rng.randint(-amplitude, amplitude) for _ in range(length)]
+def any_runs(rng, *lengths):
+    """Three runs of noise of one amplitude: sometimes of two counts, or of so many that a phase may be there or not."""
+    amplitude = rng.choice((2, 30, 60, 500, HIGH, HIGH))
+    return [[rng.randint(-amplitude, amplitude) for _ in range(length)] for length in lengths]
+
+
+def any_stretch(rng, nominal, count):
+    """So many samples of a wave, of anything, of noise that may have a phase or not, or of a dead feeder."""
+    kind = rng.randrange(10)
+    if kind < 5:
+        return any_wave(rng, nominal, count)
+    if kind < 8:
+        return [any_sample(rng) for _ in range(count)]
+    return [noise_sample(rng, 40) for _ in range(count)] if kind == 8 else dead_noise(rng, count, rng.randint(0, 2))

@@ -1,4 +1,4 @@
-"""The class P model of document 01, with CR 1 to CR 4 of document 02, in the order of 01's sections and then the
+"""The class P model of document 01, with CR 1 to CR 5 of document 02, in the order of 01's sections and then the
 frames of CR 4, in exact whole numbers."""
 
 import math
@@ -84,10 +84,15 @@ assert ARCTANGENTS == [
     2670163, 1335087, 667544, 333772, 166886, 83443, 41722, 20861,
     10430, 5215, 2608, 1304, 652, 326, 163, 81]
 
+NO_PHASE_BELOW = 22118400
+
+# "which is four peak counts"
+assert NO_PHASE_BELOW == 4 * 5529600
+
 
 def no_phase(re, im):
-    """For (re, im) = (0, 0) there is no phase."""
-    return re == 0 and im == 0
+    """CR 5: there is no phase when both |re| and |im| are below 22118400."""
+    return abs(re) < NO_PHASE_BELOW and abs(im) < NO_PHASE_BELOW
 
 
 def first_quadrant(re, im):

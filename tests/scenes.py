@@ -3,7 +3,7 @@
 import itertools
 import math
 
-from inputs import HIGH, LOW, any_run, any_sample, any_wave, opening_pairs, served_pairs
+from inputs import HIGH, LOW, any_runs, any_sample, any_wave, opening_pairs, served_pairs
 from maker import FREE, LENGTHS, any_samples, edited, held_slot
 from reference import (
     AFTER_PLACES, BANK_BYTES, CLOSED, FIRST_PLACE, LAST_SOC, LIMITS, PLACES, SERVED, SLOT_BYTES, SLOTS, SOUND, TRIMMED,
@@ -24,8 +24,8 @@ def impulse_runs(phase, at):
 
 def figures_of_the_document(maker):
     """The figures on both sides of each edge, as records."""
-    for phase, at in ((0, 30), (0, 31), (1, 35)):
-        maker.run(60, 30, impulse_runs(phase, at))
+    for nominal, (phase, at) in itertools.product(SERVED, ((0, 30), (0, 31), (1, 35))):
+        maker.run(nominal, 30, impulse_runs(phase, at))
     for re, im in ((10100, 0), (10060, 80), (10101, 0), (10060, 81)):
         maker.judge(device=(re, im, 0, 0), reference=(10000, 0, 0, 0))
     for class_ in (0, 1):
@@ -36,7 +36,7 @@ def figures_of_the_document(maker):
         for m in (-3, -2, 2, 3):
             maker.judge(class_, 1, m)
     for centre in (14, 15, 16):
-        maker.run(50, centre, [any_run(maker.rng, 31) for _ in range(3)])
+        maker.run(50, centre, any_runs(maker.rng, 31, 31, 31))
     maker.lay(2, held_slot(any_samples(maker.rng), soc=LAST_SOC, index=898))
     maker.push(2)
     maker.push(2)
@@ -421,14 +421,19 @@ def reports(maker):
         maker.close(slot)
 
 
+def push_window(maker, slot, nominal, samples):
+    """A window as the first 31 samples of a feed, whose report comes with the last."""
+    maker.open(slot, nominal, nominal, maker.rng.randint(0, LAST_SOC))
+    for sample in samples:
+        maker.push(slot, sample)
+    maker.close(slot)
+
+
 def windows_pushed(maker):
-    """Windows whose first index is a multiple of 15, as the first 31 samples of a feed."""
+    """Windows whose first index is a multiple of 15."""
     whole = [window for window in windows() if window.first % 15 == 0]
-    for n, window in enumerate(maker.rng.sample(whole, 120)):
-        maker.open(n % 16, window.nominal, window.nominal, n)
-        for sample in window.samples:
-            maker.push(n % 16, sample)
-        maker.close(n % 16)
+    for n, window in enumerate(maker.rng.sample(whole, 40)):
+        push_window(maker, n % 16, window.nominal, window.samples)
 
 
 def turns_of_the_second(maker):
@@ -486,15 +491,15 @@ def last_seconds(maker):
 
 
 # ---------------------------------------------------------------------------
-# Whole runs and verdicts
+# Whole runs
 
 def whole_runs(maker):
     """Runs of every length, unequal lengths, centres at both sides, and the order of refusals."""
     rng = maker.rng
     for length in range(256):
-        maker.run(rng.choice((50, 60)), length // 2, [any_run(rng, length) for _ in range(3)])
+        maker.run(rng.choice((50, 60)), length // 2, any_runs(rng, length, length, length))
     for length in (0, 1, 15, 16, 29, 30, 31, 32, 33, 46, 254, 255):
-        runs = [any_run(rng, length) for _ in range(3)]
+        runs = any_runs(rng, length, length, length)
         centres = {0, 13, 14, 15, 16, 17, length - 17, length - 16, length - 15, length - 14, length - 1,
                    length, length + 1, 256 + 15, 65536 + 15, 2**31, LAST_SOC - 30, LAST_SOC - 15,
                    LAST_SOC - 14, LAST_SOC}
@@ -505,16 +510,23 @@ def whole_runs(maker):
         for lengths in ((31, 31, 31), (30, 31, 31), (31, 30, 31), (31, 31, 30), (32, 31, 31), (31, 32, 31),
                         (31, 31, 32), (0, 31, 31), (31, 0, 31), (31, 31, 0), (31, 0, 0), (40, 50, 60)):
             for centre in (14, 15, 16):
-                maker.run(nominal, centre, [any_run(rng, length) for length in lengths])
+                maker.run(nominal, centre, any_runs(rng, *lengths))
+
+
+def run_window(maker, nominal, residue, samples):
+    """A window as a run, after as many samples as give the centre its place in the tables."""
+    before = [any_sample(maker.rng) for _ in range(residue)]
+    maker.run(nominal, residue + 15, list(zip(*before, *samples)))
 
 
 def windows_run(maker):
-    """Windows as runs, after as many samples as give the centre its place in the tables."""
-    for window in maker.rng.sample(windows(), 500):
-        before = window.first % 15
-        samples = [any_sample(maker.rng) for _ in range(before)] + window.samples
-        maker.run(window.nominal, before + 15, list(zip(*samples)))
+    """Windows of every kind."""
+    for window in maker.rng.sample(windows(), 400):
+        run_window(maker, window.nominal, window.first % 15, window.samples)
 
+
+# ---------------------------------------------------------------------------
+# Verdicts
 
 # m about both edges of what a ramp leaves out, others whose last byte or two are the same, and the extremes
 INTERVALS = sorted({near + far for near in range(-4, 5) for far in (0, -256, 256, -65536, 65536)}

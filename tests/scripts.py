@@ -13,6 +13,7 @@ from commands import compared, compared_on, dispatch, printed_by
 from files import PIECES, printed_by as printed_in_pieces
 from frame_scenes import BENCH, FRAME_SCENES
 from maker import Maker, agreeing, frame_bytes, frame_record, record, run_record
+from phase_scenes import PHASE_SCENES
 from reference import CLOSED, SOUND, TRIMMED
 from replay import ARGUMENTS, new_memory, replay
 from scenes import SCENES
@@ -52,7 +53,7 @@ ENDINGS = {"cut": cut_endings, "unknown": unknown_endings}
 def made(seed, calls, ending=None):
     """A script that reaches every edge and then goes on at random."""
     maker = Maker(seed)
-    for scene in SCENES + FRAME_SCENES:
+    for scene in SCENES + PHASE_SCENES + FRAME_SCENES:
         scene(maker)
     any_traffic(maker, calls)
     if ending:

@@ -1,4 +1,4 @@
-"""The figures of document 01 and of CR 1 to CR 4 on both sides of each edge, held against the model."""
+"""The figures of document 01 and of CR 1 to CR 5 on both sides of each edge, held against the model."""
 
 import binascii
 import itertools
@@ -8,39 +8,15 @@ from files import document, header
 from frame_scenes import ORDER, other_checksums, with_faults, wrapping_tags
 from inputs import served_pairs
 from maker import FREE, Bench, agreeing, any_bench, any_figures, edited, flipped, frame_bytes, held_slot, sealed
+from phase_figures import PHASE_CHECKS
 from reference import (
     AFTER_PLACES, BANK_BYTES, CLOSED, DONE, LEFT_OUT, PLACES, SERVED, SLOT_BYTES, SLOTS, SOUND, TRIMMED, Device, Fate,
-    Feed, Frame, Mended, Reading, Reference, Refused, Taken, Verdict, angle, bits, checksum, clear, damage, differences,
-    feed_of, frame_spacing, frequency_deviation, judge, listing, no_phase, open_feed, positive_sequence, push, put_slot,
-    read_frame, salvage, sampling, slot_bytes, slot_of, whole_run, within_tve)
+    Feed, Frame, Mended, Reading, Reference, Refused, Taken, Verdict, bits, checksum, clear, damage, differences,
+    feed_of, frame_spacing, frequency_deviation, judge, listing, open_feed, push, put_slot, read_frame, salvage,
+    sampling, slot_bytes, slot_of, whole_run, within_tve)
 
 CLASSES = (0, 1)
 STEADY, RAMP = 0, 1
-
-
-def impulse(phase, at):
-    """A run that is 1 in one phase at one index, else 0."""
-    def sample(n):
-        return tuple(1 if n == at and p == phase else 0 for p in range(3))
-    return sample
-
-
-def angles():
-    """P: the angle in each quadrant, on the axis, and none."""
-    yield angle(1, 1), 536870912
-    yield angle(-1, 1), 1610612736
-    yield angle(-1, -1), 2684354560
-    yield angle(1, -1), 3758096384
-    yield angle(0, 1), 1073741824
-    yield no_phase(0, 0), True
-    yield angle(0, 0), 0
-
-
-def single_samples():
-    """P: one sample of 1, seen from centre 30."""
-    yield positive_sequence(impulse(0, 30), 30), (245760, 0)
-    yield positive_sequence(impulse(0, 31), 30), (209552, -93296)
-    yield positive_sequence(impulse(1, 35), 30), (163840, 0)
 
 
 def wrapped_differences():
@@ -469,7 +445,9 @@ def bank_and_whole_run():
     rng = random.Random(1)
     for nominal, rates in SERVED.items():
         length = sampling(nominal) + 130
-        runs = [[rng.randint(-32768, 32767) for _ in range(length)] for _ in range(3)]
+        # large noise, noise that may have a phase or not, and a dead feeder, 130 samples of each in turn
+        runs = [[rng.randint(-size, size) for size in [(32767, 40, 2)[n // 130 % 3] for n in range(length)]]
+                for _ in range(3)]
         for rate in rates:
             bank = bytearray(BANK_BYTES)
             yield open_feed(bank, 7, nominal, rate, 41), DONE
@@ -489,12 +467,11 @@ def bank_and_whole_run():
             yield slot_of(feed_of(slot_bytes(bank, 7))), slot_bytes(bank, 7)
 
 
-CHECKS = (angles, single_samples, wrapped_differences, total_vector_errors, steady_frequency_errors,
-          steady_rocof_errors, left_out_intervals, last_second, runs_of_31, whole_listing,
-          rate_0_at_opening, rate_0_in_headers, mended_alone, mended_together, refused_salvage,
-          pushes_after_salvage, known_checksums, frame_by_hand, read_figures, time_qualities, bench_refusals, lengths,
-          syncs_and_sizes, changed_bits, ids_and_stats, differences_of_tags, tags_beyond_the_second, tags_of_seconds,
-          tags_that_wrap, orders_of_reading, bank_and_whole_run)
+CHECKS = (wrapped_differences, total_vector_errors, steady_frequency_errors, steady_rocof_errors, left_out_intervals,
+          last_second, runs_of_31, whole_listing, rate_0_at_opening, rate_0_in_headers, mended_alone, mended_together,
+          refused_salvage, pushes_after_salvage, known_checksums, frame_by_hand, read_figures, time_qualities,
+          bench_refusals, lengths, syncs_and_sizes, changed_bits, ids_and_stats, differences_of_tags,
+          tags_beyond_the_second, tags_of_seconds, tags_that_wrap, orders_of_reading, *PHASE_CHECKS, bank_and_whole_run)
 
 
 def main():

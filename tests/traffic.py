@@ -2,7 +2,7 @@
 
 import struct
 
-from inputs import any_run, any_wave, clipped, opening_pairs
+from inputs import any_runs, any_stretch, clipped, dead_noise, opening_pairs
 from maker import FREE, LENGTHS, agreeing, any_bench, any_figures, edited, flipped, frame_bytes, sealed
 from reference import (
     BANK_BYTES, FIRST_PLACE, FRAME_BYTES, LAST_SOC, SLOT_BYTES, SLOTS, damage, is_open, sampling, slot_bytes)
@@ -96,8 +96,7 @@ def any_whole_run(maker):
     rng = maker.rng
     length = rng.randint(29, 90)
     lengths = [length, length, length + rng.choice((0, 0, 0, 0, 0, 1))]
-    maker.run(rng.choice((50, 60, 50, 60, 55)), rng.randint(14, length - 15),
-              [any_run(rng, length) for length in lengths])
+    maker.run(rng.choice((50, 60, 50, 60, 55)), rng.randint(14, length - 15), any_runs(rng, *lengths))
 
 
 def any_change(maker, slot):
@@ -139,12 +138,19 @@ def any_moment(maker):
         maker.lay(slot, edited(content, 4, *struct.pack(">IH", soc, index)))
 
 
+def feeder(rng, slot, count):
+    """What a slot's feeder gives: those of the last three slots are most often dead."""
+    if slot >= 13 and rng.random() < 0.9:
+        return dead_noise(rng, count)
+    return any_stretch(rng, 60, count)
+
+
 def any_pushes(maker):
-    """A wave or noise pushed to some of the open slots in turn."""
+    """What their feeders give, pushed to some of the open slots in turn."""
     rng = maker.rng
     slots = rng.sample(SLOTS, rng.randint(1, 5))
     count = rng.randint(1, 20)
-    samples = {slot: any_wave(rng, 60, count) if rng.random() < 0.7 else [None] * count for slot in slots}
+    samples = {slot: feeder(rng, slot, count) for slot in slots}
     for n in range(count):
         for slot in slots:
             if is_open(maker.memory, slot) or n == 0:

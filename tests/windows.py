@@ -4,22 +4,22 @@ make SCRIPT EXPECTED  writes the windows as whole runs for the replay program, a
 compare PROGRAM       runs the replay program on them
 """
 
+import functools
 import itertools
 import random
 from typing import NamedTuple
 
+from centres import (
+    LAGS, LENGTH, LIMIT, PHASES, RESIDUES, beyond_32_bits, one_at_the_edge, several_at_the_edge, truncation_told)
 from commands import compared_on, dispatch
-from inputs import HIGH, LOW, clipped, noise_sample, rail_sample, steady_wave
+from inputs import HIGH, LOW, clipped, dead_noise, noise_sample, rail_sample, steady_wave
 from lines import figures_line
 from maker import run_record
 from reference import cos, measure, sin
 
 SEED = 3711801
-LENGTH = 31
 CENTRE = 15
 LAST_INDEX = 4294967295
-PHASES = range(3)
-LAGS = (0, 5, 10)
 
 
 class Window(NamedTuple):
@@ -81,6 +81,11 @@ def from_table(table, first, factor):
             for place in range(LENGTH)]
 
 
+def with_signs(table, first, upper, lower):
+    """One level where a positive sequence wave that is a table is above 0, another elsewhere."""
+    return [tuple(upper if value > 0 else lower for value in sample) for sample in from_table(table, first, 1)]
+
+
 def without_phase(rng):
     """Equal noise on the three phases beside a constant of each: no centre has a phase."""
     amplitude = rng.choice((0, 1, 100, 10000))
@@ -89,25 +94,9 @@ def without_phase(rng):
     return [tuple(level + own for own in offset) for level in noise_levels]
 
 
-def multiples(total, first, second):
-    """Whole u and v, u as small as it can be, for which u × first + v × second is the total."""
-    u = total * pow(first, -1, second) % second
-    if u > second // 2:
-        u -= second
-    return u, (total - u * first) // second
-
-
-def of_one_phase(re, im):
-    """The samples of one phase by offset that give this re and im where the centre's entry is 0."""
-    # A count at offset 12 makes re odd, one at offset 10 makes im odd. Then equal counts at offsets
-    # k and -k change re alone, opposite ones im alone, each by twice the weight × the table.
-    odd_re, odd_im = re % 2, im % 2
-    re -= 3 * cos(12) * odd_re + 5 * cos(10) * odd_im
-    im += 3 * sin(12) * odd_re + 5 * sin(10) * odd_im
-    at_12, at_14 = multiples(re // 2, 3 * cos(12), cos(14))
-    at_10, at_13 = multiples(im // 2, -5 * sin(10), -2 * sin(13))
-    return {12: odd_re + at_12, -12: at_12, 14: at_14, -14: at_14,
-            10: odd_im + at_10, -10: -at_10, 13: at_13, -13: -at_13}
+def least_count(weight, n):
+    """The least count that has a phase with this weight and table entry."""
+    return -(-LIMIT // (weight * max(abs(cos(n)), abs(sin(n)))))
 
 
 # ---------------------------------------------------------------------------
@@ -122,9 +111,9 @@ def zeros(rng):
 
 
 def noise(rng):
-    """Noise of several amplitudes, also of a count or two."""
-    for amplitude in (1, 2, 3, 10, 100, 1000, 10000, 32767):
-        for _ in range(300):
+    """Noise of several amplitudes: up to 3 counts without a phase, at 10 hardly ever with one, from 20 on it varies."""
+    for amplitude in (1, 2, 3, 10, 20, 30, 40, 60, 100, 1000, 10000, 32767):
+        for _ in range(100 if amplitude <= 10 else 300):
             yield anywhere(rng, [noise_sample(rng, amplitude) for _ in range(LENGTH)])
 
 
@@ -156,25 +145,37 @@ def matched_rails(rng):
         for upper, lower in ((HIGH, LOW), (LOW, HIGH)):
             for residue in range(15):
                 for turn in range(15):
-                    signs = from_table(table, residue + turn, 1)
-                    yield at_residue(rng, residue, [tuple(upper if value > 0 else lower for value in sample)
-                                                    for sample in signs])
+                    yield at_residue(rng, residue, with_signs(table, residue + turn, upper, lower))
+
+
+def small_matches(rng):
+    """Counts that have the signs of a turned table: 3 have no phase wherever they are, 4 have one where unturned."""
+    for table, size, residue in itertools.product((cos, sin), (2, 3, 4), range(15)):
+        for turn in (0, rng.randrange(15)):
+            yield at_residue(rng, residue, with_signs(table, residue + turn, size, -size))
 
 
 def impulses(rng):
     """A single impulse in each phase at each place, at each residue of the index."""
-    for place in range(LENGTH):
-        for phase in PHASES:
-            for residue in range(15):
-                for value in (rng.choice((1, -1)), rng.choice((2, -700, HIGH, LOW))):
-                    yield at_residue(rng, residue, changed(constant((0, 0, 0)), {(place, phase): value}))
+    for place, phase, residue in itertools.product(range(LENGTH), PHASES, range(15)):
+        value = rng.choice((1, -2, 700, -1900, HIGH, LOW))
+        yield at_residue(rng, residue, changed(constant((0, 0, 0)), {(place, phase): value}))
+
+
+def impulses_at_the_edge(rng):
+    """A single impulse, the least with which all three centres have a phase, and a count less."""
+    for place, residue, less in itertools.product(range(2, 29), range(15), (0, 1)):
+        phase = rng.randrange(3)
+        least = least_count(14 - abs(place - CENTRE), residue + place - LAGS[phase])
+        impulse = {(place, phase): rng.choice((-1, 1)) * (least - less)}
+        yield at_residue(rng, residue, changed(constant((0, 0, 0)), impulse))
 
 
 def sines(rng):
-    """Positive sequence from 40 to 70 Hz, of several amplitudes and phases, also clipped."""
+    """Positive sequence from 40 to 70 Hz, of several amplitudes and phases, also about four counts and clipped."""
     for frequency in range(40, 71):
-        for amplitude in (1, 3, 50, 2000, 20000, 32767, 60000):
-            for _ in range(12):
+        for amplitude in (3, 4, 5, 6, 50, 2000, 20000, 32767, 60000):
+            for _ in range(10):
                 nominal = any_nominal(rng)
                 exact = frequency + rng.choice((0, rng.uniform(-0.5, 0.5)))
                 samples = steady_wave(nominal, exact, amplitude, LENGTH, rng.random())
@@ -185,7 +186,7 @@ def other_sequences(rng):
     """Negative sequence and zero sequence from 40 to 70 Hz."""
     for order in (-1, 0):
         for frequency in range(40, 71, 2):
-            for amplitude in (2, 200, 32767):
+            for amplitude in (200, 2000, 32767):
                 for _ in range(6):
                     nominal = any_nominal(rng)
                     samples = steady_wave(nominal, frequency, amplitude, LENGTH, rng.random(), order)
@@ -210,36 +211,54 @@ def some_without_phase(rng):
     for before, at, after in itertools.product((-2, -1, 0, 1, 2), repeat=3):
         for residue in range(15):
             phase = rng.randrange(3)
-            scale = rng.choice((1, 1, 7, 300))
+            # 15 times the least has a phase; of one less, 15 times has none and 30 times has one
+            least = least_count(15, residue + CENTRE - LAGS[phase])
+            scale = rng.choice((least, least - 1, 150))
             yield at_residue(rng, residue, changed(without_phase(rng), {
-                (0, phase): scale * (before - 14 * at),
+                (0, phase): scale * (15 * before - 14 * at),
                 (15, phase): scale * at,
-                (30, phase): scale * (after - 14 * at)}))
+                (30, phase): scale * (15 * after - 14 * at)}))
 
 
 def changed_at_the_ends(rng):
     """A change of one or two samples at the ends, which one or two of the centres do not see."""
     for _ in range(600):
-        places = rng.sample((0, 1, 29, 30), rng.choice((1, 2)))
-        changes = {(place, rng.randrange(3)): rng.choice((1, -1, 5, -700)) for place in places}
+        places = rng.sample((0, 1, 29, 30), rng.choice((1, 2, 2)))
+        changes = {(place, rng.randrange(3)): rng.choice((1, -1350, 1900, -2800, 12000)) for place in places}
         yield anywhere(rng, changed(without_phase(rng), changes))
 
 
-def small_centres(rng):
-    """One of the centres has an re and im of a few counts, where floor and truncation differ most."""
-    for most in (2, 10, 50, 100, 150, 250):
-        for centre, phase in itertools.product((14, 15, 16), PHASES):
-            for _ in range(70):
-                offsets = of_one_phase(rng.randint(-most, most), rng.randint(-most, most))
-                if all(LOW <= value <= HIGH for value in offsets.values()):
-                    changes = {(centre + offset, phase): value for offset, value in offsets.items()}
-                    yield at_residue(rng, (LAGS[phase] - centre) % 15, changed(constant((0, 0, 0)), changes))
+def dying(rng):
+    """A wave that goes over into the noise of a dead feeder at each place, and noise that goes over into a wave."""
+    for place in range(LENGTH + 1):
+        for amplitude in (20, 150, 2000, 20000):
+            nominal = any_nominal(rng)
+            wave = steady_wave(nominal, rng.uniform(45, 65), amplitude, LENGTH, rng.random())
+            dead = dead_noise(rng, LENGTH)
+            yield Window(nominal, any_index(rng), wave[:place] + dead[place:])
+            yield Window(nominal, any_index(rng), dead[:place] + wave[place:])
 
 
-MAKERS = (zeros, noise, constant_rails, alternating_rails, random_rails, matched_rails, impulses,
-          sines, other_sequences, axes, some_without_phase, changed_at_the_ends, small_centres)
+def at_edges(rng):
+    """Centres at either side of the edge of phase, exactly: one, each part and sign of each, and several together; and
+    centres that would be below it by their low 32 bits."""
+    for cases in (one_at_the_edge, one_at_the_edge, several_at_the_edge, beyond_32_bits):
+        for case in cases(rng, RESIDUES):
+            yield at_residue(rng, case.residue, case.samples)
 
 
+def told_from_floor(rng):
+    """Centres above the limit, of which truncation instead of floor gives other figures."""
+    for case in truncation_told(rng, RESIDUES, 90):
+        yield at_residue(rng, case.residue, case.samples)
+
+
+MAKERS = (zeros, noise, constant_rails, alternating_rails, random_rails, matched_rails, small_matches, impulses,
+          impulses_at_the_edge, sines, other_sequences, axes, some_without_phase, changed_at_the_ends, dying, at_edges,
+          told_from_floor)
+
+
+@functools.cache
 def windows():
     """All the windows, each maker's from its own fixed seed."""
     return [window for maker in MAKERS for window in maker(random.Random("%d %s" % (SEED, maker.__name__)))]

@@ -6,6 +6,7 @@ pub mod ConditionC
 pub mod ConditionD
 pub mod SentBack
 pub mod Salvage
+pub mod DeadFeeder
 pub mod Figures
 pub mod Document
 pub mod Tied

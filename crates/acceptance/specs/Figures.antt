@@ -1,4 +1,5 @@
--- Document 01, "Figures on both sides of each edge": those marked P, as one list under a single claim about the rules themselves.
+-- Document 01, "Figures on both sides of each edge": those marked P, as one list under a single claim about the rules themselves, the angles
+-- and the impulses as CR 5 restates them.
 use mathlib.Core.Path.{_≡_}
 use mathlib.Core.Bool.{Bool, true, false, cond, _&&_, Bool·beq}
 use mathlib.Core.List.{List, [], _∷_}
@@ -12,7 +13,7 @@ use Rattle.sampling.specs.declared.Nominal.{Nominal}
 use Rattle.sampling.specs.declared.Nominal.the-variants.{Sixty}
 use Rattle.model.specs.Filter.{positive, noSample}
 use Rattle.model.specs.Angle.{angleOf, phaseOf}
-use Rattle.model.specs.Report.{differences, deviationOf, threePhase}
+use Rattle.model.specs.Report.{differences, deviationOf, threePhase, figuresAt}
 use Rattle.verdict.specs.declared.errors.Device.{Device}
 use Rattle.verdict.specs.declared.errors.Reference.{Reference}
 use Rattle.verdict.specs.Errors.{errorsOf}
@@ -27,8 +28,8 @@ pub data Angled : Type 0 where
 pub data Figure : Type 0 where
   -- angle of (re, im)
   angle : (re im : ℤ) → Angled → Figure
-  -- one sample at an index and zeros elsewhere: re and im at a centre
-  impulse : (sample : Sample) (index centre : ℕ) (re im : ℤ) → Figure
+  -- one sample at an index and zeros elsewhere: re and im at a centre, and the mark of the report there
+  impulse : (sample : Sample) (index centre : ℕ) (re im : ℤ) (mark : ℕ) → Figure
   -- p and r: d1
   difference : (p r : ℕ) (d1 : ℤ) → Figure
   -- d1 at a nominal frequency: the deviation in whole Hz
@@ -58,10 +59,15 @@ alone s index n = cond (eqb n index) s noSample
 abbrev phase : ℕ → Phase
 phase parts = record { angle = angleOf parts; none = false }
 
+-- the mark of the report at a centre, which is the same at both nominals
+abbrev markAt : (ℕ → Sample) → ℕ → ℕ
+markAt x centre = figuresAt threePhase Sixty x centre .mark
+
 -- the rule gives what the figure says; d1 needs no q
 unfoldable pub holds : Figure → Bool
 holds (angle re im angled) = isAngled (phaseOf (threePhase .limit) (record { re = re; im = im })) angled
-holds (impulse s index centre re im) = same (positive (alone s index) centre .re) re && same (positive (alone s index) centre .im) im
+holds (impulse s index centre re im mark) =
+    same (positive (alone s index) centre .re) re && same (positive (alone s index) centre .im) im && eqb (markAt (alone s index) centre) mark
 holds (difference p r d1) = same (differences (phase p) (phase p) (phase r) .d1) d1
 holds (deviation nominal d1 hz) = eqb (toBits binary64 (deviationOf nominal d1)) (toBits binary64 (ofInt binary64 hz))
 holds (tve device reference percent within) = Bool·beq (verdictOn (errorsOf device reference) (record { tve = percent; fe = 0; rfe = 0 }) .tve) within
@@ -93,18 +99,23 @@ device re im = record { re = pos re; im = pos im; deviation = pos 0; rocof = pos
 abbrev pub reference : ℕ → ℕ → Reference
 reference re im = record { re = pos re; im = pos im; deviation = pos 0; rocof = pos 0 }
 
--- the figures that are marked P, in document 01's order; r - p = 2^31 stands twice, without a wrap and with one
+-- the figures that are marked P, in document 01's order: its angle cases with both parts multiplied by 22118400, then both sides of that edge; its
+-- impulse sums, with mark 1 (CR 5); r - p = 2^31 twice, without a wrap and with one
 abbrev pub figures : List Figure
 figures =
-    angle (pos 1) (pos 1) (at 536870912)
-    ∷ angle (minusOf 1) (pos 1) (at 1610612736)
-    ∷ angle (minusOf 1) (minusOf 1) (at 2684354560)
-    ∷ angle (pos 1) (minusOf 1) (at 3758096384)
-    ∷ angle (pos 0) (pos 1) (at 1073741824)
+    angle (pos 22118400) (pos 22118400) (at 536870912)
+    ∷ angle (minusOf 22118400) (pos 22118400) (at 1610612736)
+    ∷ angle (minusOf 22118400) (minusOf 22118400) (at 2684354560)
+    ∷ angle (pos 22118400) (minusOf 22118400) (at 3758096384)
+    ∷ angle (pos 0) (pos 22118400) (at 1073741824)
     ∷ angle (pos 0) (pos 0) none
-    ∷ impulse oneInA 30 30 (pos 245760) (pos 0)
-    ∷ impulse oneInA 31 30 (pos 209552) (minusOf 93296)
-    ∷ impulse oneInB 35 30 (pos 163840) (pos 0)
+    ∷ angle (pos 22118399) (pos 22118399) none
+    ∷ angle (pos 22118400) (pos 0) (at 0)
+    ∷ angle (pos 0) (minusOf 22118400) (at 3221225472)
+    ∷ angle (pos 22118399) (minusOf 22118400) (at 3758096441)
+    ∷ impulse oneInA 30 30 (pos 245760) (pos 0) 1
+    ∷ impulse oneInA 31 30 (pos 209552) (minusOf 93296) 1
+    ∷ impulse oneInB 35 30 (pos 163840) (pos 0) 1
     ∷ difference 4294967290 10 (pos 16)
     ∷ difference 0 2147483648 (minusOf 2147483648)
     ∷ difference 4294967295 2147483647 (minusOf 2147483648)

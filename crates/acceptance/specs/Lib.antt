@@ -7,6 +7,7 @@ pub mod Alone
 pub mod ConditionC
 pub mod ConditionD
 pub mod Salvage
+pub mod DeadFeeder
 pub mod Figures
 pub mod Document
 pub mod Tied

@@ -1,4 +1,5 @@
-// Lists the stored files of its folder in turn, through `lister::list`: every refusal of a file, both nominals and versions, short files and long ones.
+// Lists the stored files of its folder in turn, through `lister::list`: every refusal of a file, both nominals and versions, feeders without a phase, short files
+// and long ones.
 use libc::STDOUT_FILENO;
 use lister::Ending;
 
@@ -8,6 +9,7 @@ fn main() {
     list_other_versions();
     list_sound();
     list_rate_0();
+    list_without_phase();
     list_rest();
     end_otherwise();
 }
@@ -42,6 +44,12 @@ fn list_rate_0() {
     list_thrice(b"sixty_rate_0_version_1.phs");
     list_thrice(b"fifty_rate_0_version_2.phs");
     list_thrice(b"sixty_rate_0_version_2.phs");
+}
+
+// Noise of a count and of two, and reports whose parts are at and below four peak counts.
+fn list_without_phase() {
+    list_thrice(b"dead.phs");
+    list_thrice(b"edge_of_phase.phs");
 }
 
 // Refused 15, and 8 with much after it; then files of several reads, the last of them refused 15.

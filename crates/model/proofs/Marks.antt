@@ -1,11 +1,17 @@
 -- d1, d2 and the mark by whether one of the three phases is none. Assumes nothing.
-use mathlib.Core.Path.{_≡_}
-use mathlib.Core.Bool.{true, false, _||_}
+use mathlib.Core.Path.{_≡_, refl, ap}
+use mathlib.Core.Bool.{Bool, true, false, _||_}
+use Prim.Native.Nat.{ℕ, _+_, _-_}
+use native.Mathlib.Omega.{arith}
 use lib.IntN.{pos}
 use Rattle.ints.proofs.Cases.{when-true, when-false}
 use Rattle.bits.specs.Bits.{signed32}
-use Rattle.model.specs.Report.{difference, secondDifference, differences}
+use Rattle.sampling.specs.declared.Nominal.{Nominal}
+use Rattle.model.specs.Report.{difference, secondDifference, differences, joined, phaseAt, figuresAt}
 use Rattle.model.specs.declared.angle.Phase.{Phase}
+use Rattle.model.specs.declared.filter.Sample.{Sample}
+use Rattle.model.specs.declared.report.Differences.{Differences}
+use Rattle.model.specs.declared.report.Scale.{Scale}
 
 module _ (p q r : Phase) where
   pub differences-none : (p .none || q .none || r .none) ≡ true → differences p q r ≡ record { d1 = pos 0; d2 = pos 0; mark = 1 }
@@ -16,3 +22,28 @@ module _ (p q r : Phase) where
       → differences p q r ≡ record { d1 = signed32 (difference (p .angle) (r .angle)); d2 = signed32 (secondDifference (p .angle) (q .angle) (r .angle)); mark = 0 }
   unfolding differences
   differences-some e = when-false (p .none || q .none || r .none) _ _ e
+
+-- the figures at centre i
+module _ (scale : Scale) (nominal : Nominal) (x : ℕ → Sample) (i : ℕ) where
+  -- one of the phases at i-1, i, i+1 is none
+  abbrev pub oneNone : Bool
+  oneNone = phaseAt scale x (i - 1) .none || phaseAt scale x i .none || phaseAt scale x (i + 1) .none
+
+  -- then no frequency is shown
+  pub figures-none : oneNone ≡ true
+      → (figuresAt scale nominal x i .d1 ≡ pos 0) × (figuresAt scale nominal x i .d2 ≡ pos 0) × (figuresAt scale nominal x i .mark ≡ 1)
+  unfolding figuresAt joined
+  figures-none e =
+      let d = differences-none (phaseAt scale x (i - 1)) (phaseAt scale x i) (phaseAt scale x (i + 1)) e in
+      (ap (λ (t : Differences). t .d1) d, ap (λ (t : Differences). t .d2) d, ap (λ (t : Differences). t .mark) d)
+
+  -- and the mark is 1 then only
+  pub marked-none : figuresAt scale nominal x i .mark ≡ 1 → oneNone ≡ true
+  unfolding figuresAt joined
+  marked-none e = pick oneNone refl
+    where
+      pick : (t : Bool) → oneNone ≡ t → oneNone ≡ true
+      pick true h = h
+      pick false h =
+          let d = differences-some (phaseAt scale x (i - 1)) (phaseAt scale x i) (phaseAt scale x (i + 1)) h in
+          absurd (omega (arith, e, ap (λ (t : Differences). t .mark) d))

@@ -16,7 +16,7 @@ use Rattle.model.specs.declared.angle.Angle.{Angle}
 use Rattle.model.specs.declared.angle.Phase.{Phase}
 use Rattle.model.specs.declared.angle.Turning.{Turning}
 use Rattle.model.specs.declared.filter.Phasor.{Phasor}
-use Rattle.model.proofs.NoPhase.{phase-some}
+use Rattle.model.proofs.NoPhase.{phase-some, none-is}
 
 -- (re, im) turned by a quarter turn
 abbrev pub quarterOn : Phasor → Phasor
@@ -105,14 +105,6 @@ no-phase-quarter limit p = ap (λ (n : ℕ). ltb n limit && ltb (natAbs (p .re))
     and-comm true false = refl
     and-comm false true = refl
     and-comm false false = refl
-
-none-is : (limit : ℕ) (p : Phasor) → (phaseOf limit p) .none ≡ noPhase limit p
-unfolding phaseOf
-none-is limit p = pick (noPhase limit p)
-  where
-    pick : (t : Bool) → (cond {A = Phase} t (record { angle = zeroTurn; none = true }) (record { angle = phaseAngle p; none = false })) .none ≡ t
-    pick true = refl
-    pick false = refl
 
 -- ---- the law
 

@@ -1,8 +1,9 @@
--- Of 16-bit samples re and im lie within ±362387865600: an entry is at most 16384, a sample 32768, and the weights add to 225. Assumes nothing.
-use mathlib.Core.Path.{sym, subst}
+-- How large re and im are: three entries five apart are together at most 32768 in size and the weights add to 225, so samples of at most m give parts
+-- of at most 225 · 32768 · m. Of 16-bit samples re and im lie within ±362387865600. Assumes nothing.
+use mathlib.Core.Path.{_≡_, sym, _∙_, ap, subst}
 use mathlib.Core.List.{List}
-use Prim.Native.Nat.{ℕ, _+_, _-_, _*_, _%_, _≤_, _<_}
-use native.Mathlib.Nat.{le-refl}
+use Prim.Native.Nat.{ℕ, _+_, _-_, _*_, _≤_, _<_}
+use native.Mathlib.Nat.{le-refl, mul-add, add-mul, mul-le-mul-left}
 use native.Mathlib.Omega.{arith}
 use lib.IntN.{ℤ, pos, natAbs, _+ℤ_, _*ℤ_}
 use lib.Signed.{natAbs-le}
@@ -10,11 +11,53 @@ use mir.Syntax.{w16}
 use mir.Val.{SFits}
 use Rattle.ints.proofs.Size.{size-add, size-mul-le, size-neg}
 use Rattle.ints.proofs.Sum.{sum-size}
-use Rattle.model.specs.Bounds.{Tabled, Small}
+use Rattle.model.specs.Bounds.{Sized, Small}
 use Rattle.model.specs.Filter.{weight, offset, phaseSum, term, weighted, positive, cosines, sines, entryAt}
 use Rattle.model.specs.declared.filter.Sample.{Sample}
-use Rattle.model.proofs.Tables.{cosines-tabled, sines-tabled}
+use Rattle.model.proofs.Tables.{Trios, cos-trios, sin-trios}
 use Rattle.model.proofs.Weights.{weights, weights-all}
+
+-- none of a sample's three numbers is larger in size than m
+pub record Counts (m : ℕ) (s : Sample) : Type 0 where
+  pub a-size : natAbs (s .a) ≤ m
+  pub b-size : natAbs (s .b) ≤ m
+  pub c-size : natAbs (s .c) ≤ m
+
+-- so of the 29 samples at centre i
+abbrev pub CountsAt : ℕ → (ℕ → Sample) → ℕ → Type 0
+CountsAt m x i = (j : ℕ) → j < 29 → Counts m (x (i + j - 14))
+
+module _ (m : ℕ) (table : List ℤ) (h : Trios table) where
+  phase-sum-size : (s : Sample) → Counts m s → (n : ℕ) → natAbs (phaseSum table s n) ≤ m * 32768
+  unfolding phaseSum
+  phase-sum-size s w n =
+      let x = entryAt table n in
+      let y = entryAt table (n + 10) in
+      let z = entryAt table (n + 5) in
+      let apart = mul-add m (natAbs x + natAbs y) (natAbs z) ∙ ap (λ (k : ℕ). k + m * natAbs z) (mul-add m (natAbs x) (natAbs y)) in
+      let a = size-mul-le (s .a) x (w .a-size) (le-refl (natAbs x)) in
+      let b = size-mul-le (s .b) y (w .b-size) (le-refl (natAbs y)) in
+      let c = size-mul-le (s .c) z (w .c-size) (le-refl (natAbs z)) in
+      omega (arith, size-add (s .a *ℤ x +ℤ s .b *ℤ y) (s .c *ℤ z), size-add (s .a *ℤ x) (s .b *ℤ y), a, b, c, apart, mul-le-mul-left m (h n))
+
+  weighted-size : (x : ℕ → Sample) (i : ℕ) → CountsAt m x i → natAbs (weighted table x i) ≤ 225 * (m * 32768)
+  unfolding weighted term weights
+  weighted-size x i w =
+      subst (λ (n : ℕ). natAbs (weighted table x i) ≤ n * (m * 32768)) weights-all (sum-size 29 (term table x i) (λ (j : ℕ). weights j * (m * 32768)) (λ j l. grown j (one j l)))
+    where
+      one : (j : ℕ) → j < 29 → natAbs (pos (weight (offset j)) *ℤ phaseSum table (x (i + j - 14)) (i + j - 14)) ≤ weight (offset j) * (m * 32768)
+      one j l = size-mul-le (pos (weight (offset j))) (phaseSum table (x (i + j - 14)) (i + j - 14)) (le-refl (weight (offset j))) (phase-sum-size (x (i + j - 14)) (w j l) (i + j - 14))
+
+      grown : (j : ℕ) {k : ℕ} → k ≤ weight (offset j) * (m * 32768) → weights j * (m * 32768) + k ≤ (weights j + weight (offset j)) * (m * 32768)
+      grown j p = omega (arith, add-mul (weights j) (weight (offset j)) (m * 32768))
+
+pub positive-size : (m : ℕ) (x : ℕ → Sample) (i : ℕ) → CountsAt m x i → Sized (225 * (m * 32768)) (positive x i .re) (positive x i .im)
+unfolding positive
+positive-size m x i w =
+    record {
+      re-size = weighted-size m cosines cos-trios x i w;
+      im-size = subst (λ (n : ℕ). n ≤ 225 * (m * 32768)) (sym (size-neg (weighted sines x i))) (weighted-size m sines sin-trios x i w);
+    }
 
 -- a sample of three signed 16-bit numbers
 pub record Words (s : Sample) : Type 0 where
@@ -22,32 +65,11 @@ pub record Words (s : Sample) : Type 0 where
   pub b-fits : SFits w16 (s .b)
   pub c-fits : SFits w16 (s .c)
 
-module _ (table : List ℤ) (h : Tabled table) where
-  product-size : (z : ℤ) → SFits w16 z → (n : ℕ) → natAbs (z *ℤ entryAt table n) ≤ 536870912
-  product-size z f n = size-mul-le z (entryAt table n) (natAbs-le z (f .sfits)) (h .small (n % 15))
-
-  phase-sum-size : (s : Sample) → Words s → (n : ℕ) → natAbs (phaseSum table s n) ≤ 1610612736
-  unfolding phaseSum
-  phase-sum-size s w n =
-      let a = s .a *ℤ entryAt table n in
-      let b = s .b *ℤ entryAt table (n + 10) in
-      let c = s .c *ℤ entryAt table (n + 5) in
-      omega (arith, size-add (a +ℤ b) c, size-add a b, product-size (s .a) (w .a-fits) n, product-size (s .b) (w .b-fits) (n + 10), product-size (s .c) (w .c-fits) (n + 5))
-
-  weighted-size : (x : ℕ → Sample) (i : ℕ) → ((j : ℕ) → j < 29 → Words (x (i + j - 14))) → natAbs (weighted table x i) ≤ 362387865600
-  unfolding weighted term weights
-  weighted-size x i w = omega (arith, weights-all, sum-size 29 (term table x i) (λ (j : ℕ). weights j * 1610612736) (λ j l. grown j (one j l)))
-    where
-      one : (j : ℕ) → j < 29 → natAbs (pos (weight (offset j)) *ℤ phaseSum table (x (i + j - 14)) (i + j - 14)) ≤ weight (offset j) * 1610612736
-      one j l = size-mul-le (pos (weight (offset j))) (phaseSum table (x (i + j - 14)) (i + j - 14)) (le-refl (weight (offset j))) (phase-sum-size (x (i + j - 14)) (w j l) (i + j - 14))
-
-      grown : (j : ℕ) {k : ℕ} → k ≤ weight (offset j) * 1610612736 → weights j * 1610612736 + k ≤ (weights j + weight (offset j)) * 1610612736
-      grown j p = omega arith
-
 pub positive-small : (x : ℕ → Sample) (i : ℕ) → ((j : ℕ) → j < 29 → Words (x (i + j - 14))) → Small (positive x i)
-unfolding positive
 positive-small x i w =
-    record {
-      re-size = weighted-size cosines cosines-tabled x i w;
-      im-size = subst (λ (n : ℕ). n ≤ 362387865600) (sym (size-neg (weighted sines x i))) (weighted-size sines sines-tabled x i w);
-    }
+    let s = positive-size 32768 x i (λ j l. counts (x (i + j - 14)) (w j l)) in
+    record { re-size = omega (arith, s .re-size); im-size = omega (arith, s .im-size) }
+  where
+    counts : (s : Sample) → Words s → Counts 32768 s
+    counts s f =
+        record { a-size = natAbs-le (s .a) (f .a-fits .sfits); b-size = natAbs-le (s .b) (f .b-fits .sfits); c-size = natAbs-le (s .c) (f .c-fits .sfits) }

@@ -1,6 +1,6 @@
 -- The tables' rules, each by one test that is computed over a table: no entry is larger than 16384; the mirror rule; 120 degrees is five entries,
--- so that any three entries five apart add to 0; and all 15 entries add to 0. Assumes nothing.
-use mathlib.Core.Path.{_≡_, refl, sym, _∙_, ap}
+-- so that any three entries five apart add to 0, and their sizes to 32768 at most; and all 15 entries add to 0. Assumes nothing.
+use mathlib.Core.Path.{_≡_, refl, sym, _∙_, ap, subst}
 use mathlib.Core.Bool.{Bool, true, _&&_}
 use mathlib.Core.List.{List, [], _∷_}
 use Prim.Native.Nat.{ℕ, zero, suc, _+_, _-_, _%_, _≤_, _<_, zero-le}
@@ -51,25 +51,44 @@ pub sin-mirror : (n : ℕ) → n < 15 → entryAt sines n ≡ negℤ (entryAt si
 sin-mirror = mirrored negℤ sines tt
 
 -- ---- 120 degrees is five entries
-abbrev trio : List ℤ → ℕ → ℤ
-trio table n = entryAt table n +ℤ entryAt table (n + 10) +ℤ entryAt table (n + 5)
 
-five-apart : (table : List ℤ) → T (every 15 (λ n. none (trio table n))) → (n : ℕ) → trio table n ≡ pos 0
-five-apart table t n = turned ∙ none-is (trio table (n % 15)) (each 15 (λ k. none (trio table k)) t (n % 15) (mod-lt n (lit< tt)))
-  where
-    turned : trio table n ≡ trio table (n % 15)
-    turned =
-        let e : n % 15 ≡ n % 15 % 15 = omega arith in
-        let f = later-same n (n % 15) 10 e in
-        let g = later-same n (n % 15) 5 e in
-        λ i. getD table (e i) (pos 0) +ℤ getD table (f i) (pos 0) +ℤ getD table (g i) (pos 0)
+-- a test of three entries five apart that holds below 15 holds everywhere
+module _ (test : ℤ → ℤ → ℤ → Bool) (table : List ℤ) where
+  abbrev five-apart : ℕ → Bool
+  five-apart n = test (entryAt table n) (entryAt table (n + 10)) (entryAt table (n + 5))
+
+  five-apart-all : T (every 15 five-apart) → (n : ℕ) → T (five-apart n)
+  five-apart-all t n = subst T (sym turned) (each 15 five-apart t (n % 15) (mod-lt n (lit< tt)))
+    where
+      turned : five-apart n ≡ five-apart (n % 15)
+      turned =
+          let e : n % 15 ≡ n % 15 % 15 = omega arith in
+          let f = later-same n (n % 15) 10 e in
+          let g = later-same n (n % 15) 5 e in
+          λ i. test (getD table (e i) (pos 0)) (getD table (f i) (pos 0)) (getD table (g i) (pos 0))
+
+abbrev add-to-none : ℤ → ℤ → ℤ → Bool
+add-to-none x y z = none (x +ℤ y +ℤ z)
 
 -- three entries five apart add to 0
 pub cos-five-apart : (n : ℕ) → entryAt cosines n +ℤ entryAt cosines (n + 10) +ℤ entryAt cosines (n + 5) ≡ pos 0
-cos-five-apart = five-apart cosines tt
+cos-five-apart n = none-is _ (five-apart-all add-to-none cosines tt n)
 
 pub sin-five-apart : (n : ℕ) → entryAt sines n +ℤ entryAt sines (n + 10) +ℤ entryAt sines (n + 5) ≡ pos 0
-sin-five-apart = five-apart sines tt
+sin-five-apart n = none-is _ (five-apart-all add-to-none sines tt n)
+
+-- their sizes add to 32768 at most
+abbrev pub Trios : List ℤ → Type 0
+Trios table = (n : ℕ) → natAbs (entryAt table n) + natAbs (entryAt table (n + 10)) + natAbs (entryAt table (n + 5)) ≤ 32768
+
+abbrev sizes-small : ℤ → ℤ → ℤ → Bool
+sizes-small x y z = leb (natAbs x + natAbs y + natAbs z) 32768
+
+pub cos-trios : Trios cosines
+cos-trios n = leb→le _ _ (five-apart-all sizes-small cosines tt n)
+
+pub sin-trios : Trios sines
+sin-trios n = leb→le _ _ (five-apart-all sizes-small sines tt n)
 
 -- ---- all 15 entries add to 0
 pub cos-total : sum 15 (entryAt cosines) ≡ pos 0

@@ -73,7 +73,7 @@ unfoldable pub steps : ℕ → Turning → Turning
 steps zero v = v
 steps (suc left) v = steps left (step (23 - left) v)
 
--- there is no phase where |re| and |im| are both below the limit; of limit 1: (re, im) = (0, 0)
+-- there is no phase when both |re| and |im| are below the limit (CR 5)
 unfoldable pub noPhase : ℕ → Phasor → Bool
 noPhase limit p = ltb (natAbs (p .re)) limit && ltb (natAbs (p .im)) limit
 
@@ -81,6 +81,6 @@ noPhase limit p = ltb (natAbs (p .re)) limit && ltb (natAbs (p .im)) limit
 unfoldable pub phaseAngle : Phasor → Angle
 phaseAngle p = (steps 24 (turned (scaled p))) .angle
 
--- For no phase the angle is 0
+-- the phase; where there is none, the angle is then 0 (CR 5)
 unfoldable pub phaseOf : ℕ → Phasor → Phase
 phaseOf limit p = cond (noPhase limit p) (record { angle = zeroTurn; none = true }) (record { angle = phaseAngle p; none = false })

@@ -38,9 +38,10 @@ differences p q r =
 unfoldable pub over : ℤ → ℕ → Float
 over n by = div binary64 (ofInt binary64 n) (ofInt binary64 (pos by))
 
--- re and im in peak counts, each divided once by 5529600; no phase is re = im = 0
+-- re and im in peak counts, each divided once by 5529600; there is no phase when both |re| and |im| are below 22118400, which is four peak counts
+-- (CR 5)
 abbrev pub threePhase : Scale
-threePhase = record { limit = 1; divisor = 5529600 }
+threePhase = record { limit = 22118400; divisor = 5529600 }
 
 -- the frequency deviation in Hz: d1 × half the sampling, divided once by 4294967296
 abbrev pub deviationOf : Nominal → ℤ → Float

@@ -37,9 +37,9 @@ struct Scale {
     divisor: u32,
 }
 
-// No phase is re = im = 0; peak counts are re and im divided by 5529600.
+// No phase is |re| and |im| both below 22118400, four peak counts (CR 5); peak counts are re and im divided by 5529600.
 const THREE_PHASE: Scale = Scale {
-    limit: 1,
+    limit: 22118400,
     divisor: 5529600,
 };
 

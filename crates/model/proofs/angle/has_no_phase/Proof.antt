@@ -1,8 +1,4 @@
 -- `has_no_phase` is the test of both sizes. Assumes nothing.
-use mathlib.Core.Path.{_∙_, ap, ap₂}
-use mathlib.Core.Bool.{Bool, _&&_}
-use lib.Dec.{ltb}
-use lib.IntN.{ℤ, natAbs}
 use mir.Syntax.{w64}
 use mir.Val.{SFits}
 use mir.Facts.{toZ-ofZ}
@@ -23,8 +19,7 @@ returns c =
     let a = c .before .before .before .before .args in
     let f : SFits w64 (a .p .re) = search needs in
     let g : SFits w64 (a .p .im) = search needs in
-    let small : ℤ → Bool = λ z. ltb (natAbs z) (a .limit) in
-    ap₂ _&&_ (c .before .before .is-below .ensures ∙ ap small (toZ-ofZ f)) (c .is-below2 .ensures ∙ ap small (toZ-ofZ g))
+    simp (c .before .before .is-below .ensures, c .is-below2 .ensures, toZ-ofZ f, toZ-ofZ g)
 
 pub has-no-phase-spec : {M : Type 1} → statement M
 has-no-phase-spec = tie.close (tie.spec is-below-requires is-below-requires-2 returns)
