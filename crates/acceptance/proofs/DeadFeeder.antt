@@ -1,7 +1,7 @@
 -- What CR 5 promises holds: the sizes of both parts decide whether there is a phase, the phases at three centres decide the mark, and noise of two
 -- counts gives parts of at most 14745600. Assumes nothing.
 use mathlib.Core.Path.{_≡_, refl, sym, ap, _∙_, subst}
-use mathlib.Core.Bool.{Bool, true, false, _||_}
+use mathlib.Core.Bool.{Bool, true, false, _||_, or-true}
 use mathlib.Core.Logic.{_↔_}
 use Prim.Native.Nat.{ℕ, _+_, _-_, _≤_, _<_}
 use native.Mathlib.Decide.{decLt}
@@ -15,7 +15,7 @@ use Rattle.model.specs.Filter.{positive}
 use Rattle.model.specs.Angle.{zeroTurn, quarterTurn, gains}
 use Rattle.model.specs.Report.{threePhase, phaseAt, figuresAt}
 use Rattle.model.proofs.NoPhase.{none-exactly, none-is, phase-none}
-use Rattle.model.proofs.Marks.{oneNone, figures-none, marked-none}
+use Rattle.model.proofs.Marks.{oneNone, figures-none, figures-some}
 use Rattle.model.proofs.Quarter.{quarter, quarter-none}
 use Rattle.model.proofs.Small.{positive-size}
 use Rattle.acceptance.specs.DeadFeeder.{Below, BelowAbout, NoFrequency, Noise, phaseFrom, DeadFeeder}
@@ -37,20 +37,6 @@ quarter-more re im h =
     let none = quarter-none (threePhase .limit) (record { re = re; im = im }) ∙ h in
     λ t. record { angle = angle t; none = none t }
 
--- ---- one of three
-
-first-of : (a b c : Bool) → a ≡ true → (a || b || c) ≡ true
-first-of a b c e = ap (λ (t : Bool). t || b || c) e
-
-second-of : (a b c : Bool) → b ≡ true → (a || b || c) ≡ true
-second-of true b c e = refl
-second-of false b c e = ap (λ (t : Bool). t || c) e
-
-third-of : (a b c : Bool) → c ≡ true → (a || b || c) ≡ true
-third-of true b c e = refl
-third-of false true c e = refl
-third-of false false c e = e
-
 -- ---- the mark
 
 module _ (nominal : Nominal) (x : ℕ → Sample) (i : ℕ) where
@@ -70,26 +56,29 @@ module _ (nominal : Nominal) (x : ℕ → Sample) (i : ℕ) where
       there : (k : ℕ) → h .centre ≡ k → none-at k ≡ true
       there k e = subst (λ (n : ℕ). none-at n ≡ true) e (decided (h .centre) .1 (h .below))
 
-      one : oneNone threePhase nominal x i ≡ true
+      one : oneNone threePhase x i ≡ true
       one =
           elim (decLt (h .centre) i) [
-            | yes l ↦ first-of (none-at (i - 1)) (none-at i) (none-at (i + 1)) (there (i - 1) (omega (arith, h .not-sooner)))
+            | yes l ↦ simp (there (i - 1) (omega (arith, h .not-sooner)))
             | no l ↦ elim (decLt i (h .centre)) [
-              | yes m ↦ third-of (none-at (i - 1)) (none-at i) (none-at (i + 1)) (there (i + 1) (omega (arith, h .not-later)))
-              | no m ↦ second-of (none-at (i - 1)) (none-at i) (none-at (i + 1)) (there i (omega arith))
+              | yes m ↦ simp (there (i + 1) (omega (arith, h .not-later)), or-true)
+              | no m ↦ simp (there i (omega arith), or-true)
             ]
           ]
 
-  marked-there : figuresAt threePhase nominal x i .mark ≡ 1 → BelowAbout x i
-  marked-there e = pick (none-at (i - 1)) (none-at i) (none-at (i + 1)) refl refl refl (marked-none threePhase nominal x i e)
+  unmarked : (BelowAbout x i → ⊥) → figuresAt threePhase nominal x i .mark ≡ 0
+  unmarked h =
+      let before = at-phase (i - 1) (omega arith) (omega arith) in
+      let centre = at-phase i (omega arith) (omega arith) in
+      let after = at-phase (i + 1) (omega arith) (omega arith) in
+      figures-some threePhase nominal x i (simp (before, centre, after))
     where
-      about : (k : ℕ) → i ≤ k + 1 → k ≤ i + 1 → none-at k ≡ true → BelowAbout x i
-      about k sooner later t = record { centre = k; not-sooner = sooner; not-later = later; below = decided k .0 t }
+      not-true : (t : Bool) → (t ≡ true → ⊥) → t ≡ false
+      not-true true n = absurd (n refl)
+      not-true false n = refl
 
-      pick : (a b c : Bool) → none-at (i - 1) ≡ a → none-at i ≡ b → none-at (i + 1) ≡ c → (a || b || c) ≡ true → BelowAbout x i
-      pick true b c p q r t = about (i - 1) (omega arith) (omega arith) p
-      pick false true c p q r t = about i (omega arith) (omega arith) q
-      pick false false c p q r t = about (i + 1) (omega arith) (omega arith) (r ∙ t)
+      at-phase : (k : ℕ) → i ≤ k + 1 → k ≤ i + 1 → none-at k ≡ false
+      at-phase k sooner later = not-true (none-at k) (λ e. h (record { centre = k; not-sooner = sooner; not-later = later; below = decided k .0 e }))
 
   leads-off : ((j : ℕ) → j < 29 → Noise (x (i + j - 14))) → NoFrequency (figuresAt threePhase nominal x i)
   leads-off w =
@@ -107,7 +96,7 @@ dead-feeder = record {
   four-counts = refl;
   then-zero = then-zero;
   shows-none = shows-none;
-  marked-there = marked-there;
+  unmarked = unmarked;
   quarter-more = quarter-more;
   leads-off = leads-off;
 }

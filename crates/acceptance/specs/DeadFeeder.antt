@@ -50,8 +50,8 @@ pub record DeadFeeder : Type 0 where
   pub then-zero : (re im : ℤ) → Below re im → phaseFrom re im .angle ≡ zeroTurn
   -- "Reports, the mark, the whole-run measurement and the listing follow": no frequency is shown where one of the three centres is below ..
   pub shows-none : (nominal : Nominal) (x : ℕ → Sample) (i : ℕ) → BelowAbout x i → NoFrequency (figuresAt threePhase nominal x i)
-  -- .. and the mark is 1 there only
-  pub marked-there : (nominal : Nominal) (x : ℕ → Sample) (i : ℕ) → figuresAt threePhase nominal x i .mark ≡ 1 → BelowAbout x i
+  -- .. and the mark is 0 elsewhere
+  pub unmarked : (nominal : Nominal) (x : ℕ → Sample) (i : ℕ) → (BelowAbout x i → ⊥) → figuresAt threePhase nominal x i .mark ≡ 0
   -- "Turning by a quarter still adds exactly a quarter where a phase exists"
   pub quarter-more : (re im : ℤ) → phaseFrom re im .none ≡ false
       → phaseFrom (negℤ im) re ≡ record { angle = gains (phaseFrom re im .angle) (quarterTurn .parts); none = false }

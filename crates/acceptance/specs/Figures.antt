@@ -10,7 +10,7 @@ use lib.Ieee.{binary64, ofInt, toBits}
 use Rattle.model.specs.declared.angle.Phase.{Phase}
 use Rattle.model.specs.declared.filter.Sample.{Sample}
 use Rattle.sampling.specs.declared.Nominal.{Nominal}
-use Rattle.sampling.specs.declared.Nominal.the-variants.{Sixty}
+use Rattle.sampling.specs.declared.Nominal.the-variants.{Fifty, Sixty}
 use Rattle.model.specs.Filter.{positive, noSample}
 use Rattle.model.specs.Angle.{angleOf, phaseOf}
 use Rattle.model.specs.Report.{differences, deviationOf, threePhase, figuresAt}
@@ -19,16 +19,16 @@ use Rattle.verdict.specs.declared.errors.Reference.{Reference}
 use Rattle.verdict.specs.Errors.{errorsOf}
 use Rattle.verdict.specs.Judging.{verdictOn}
 
--- an angle as document 01 gives it: none, or so many parts
+-- an angle as the documents give it: none, or so many parts
 pub data Angled : Type 0 where
   none : Angled
   at : ℕ → Angled
 
--- a figure: what it is about, and what document 01 says of it
+-- a figure: what it is about, and what the documents say of it
 pub data Figure : Type 0 where
   -- angle of (re, im)
   angle : (re im : ℤ) → Angled → Figure
-  -- one sample at an index and zeros elsewhere: re and im at a centre, and the mark of the report there
+  -- one sample at an index and zeros elsewhere: re and im at a centre, and the mark of a report there, at either nominal
   impulse : (sample : Sample) (index centre : ℕ) (re im : ℤ) (mark : ℕ) → Figure
   -- p and r: d1
   difference : (p r : ℕ) (d1 : ℤ) → Figure
@@ -59,15 +59,15 @@ alone s index n = cond (eqb n index) s noSample
 abbrev phase : ℕ → Phase
 phase parts = record { angle = angleOf parts; none = false }
 
--- the mark of the report at a centre, which is the same at both nominals
-abbrev markAt : (ℕ → Sample) → ℕ → ℕ
-markAt x centre = figuresAt threePhase Sixty x centre .mark
+-- the reports at a centre have this mark
+abbrev isMarked : (ℕ → Sample) → ℕ → ℕ → Bool
+isMarked x centre mark = eqb (figuresAt threePhase Fifty x centre .mark) mark && eqb (figuresAt threePhase Sixty x centre .mark) mark
 
 -- the rule gives what the figure says; d1 needs no q
 unfoldable pub holds : Figure → Bool
 holds (angle re im angled) = isAngled (phaseOf (threePhase .limit) (record { re = re; im = im })) angled
 holds (impulse s index centre re im mark) =
-    same (positive (alone s index) centre .re) re && same (positive (alone s index) centre .im) im && eqb (markAt (alone s index) centre) mark
+    same (positive (alone s index) centre .re) re && same (positive (alone s index) centre .im) im && isMarked (alone s index) centre mark
 holds (difference p r d1) = same (differences (phase p) (phase p) (phase r) .d1) d1
 holds (deviation nominal d1 hz) = eqb (toBits binary64 (deviationOf nominal d1)) (toBits binary64 (ofInt binary64 hz))
 holds (tve device reference percent within) = Bool·beq (verdictOn (errorsOf device reference) (record { tve = percent; fe = 0; rfe = 0 }) .tve) within

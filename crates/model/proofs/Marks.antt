@@ -1,8 +1,7 @@
 -- d1, d2 and the mark by whether one of the three phases is none. Assumes nothing.
-use mathlib.Core.Path.{_≡_, refl, ap}
+use mathlib.Core.Path.{_≡_, ap}
 use mathlib.Core.Bool.{Bool, true, false, _||_}
 use Prim.Native.Nat.{ℕ, _+_, _-_}
-use native.Mathlib.Omega.{arith}
 use lib.IntN.{pos}
 use Rattle.ints.proofs.Cases.{when-true, when-false}
 use Rattle.bits.specs.Bits.{signed32}
@@ -23,27 +22,21 @@ module _ (p q r : Phase) where
   unfolding differences
   differences-some e = when-false (p .none || q .none || r .none) _ _ e
 
--- the figures at centre i
-module _ (scale : Scale) (nominal : Nominal) (x : ℕ → Sample) (i : ℕ) where
-  -- one of the phases at i-1, i, i+1 is none
-  abbrev pub oneNone : Bool
-  oneNone = phaseAt scale x (i - 1) .none || phaseAt scale x i .none || phaseAt scale x (i + 1) .none
+-- one of the phases at i-1, i, i+1 is none
+abbrev pub oneNone : Scale → (ℕ → Sample) → ℕ → Bool
+oneNone scale x i = phaseAt scale x (i - 1) .none || phaseAt scale x i .none || phaseAt scale x (i + 1) .none
 
-  -- then no frequency is shown
-  pub figures-none : oneNone ≡ true
+module _ (scale : Scale) (nominal : Nominal) (x : ℕ → Sample) (i : ℕ) where
+  -- then the report at i shows no frequency
+  pub figures-none : oneNone scale x i ≡ true
       → (figuresAt scale nominal x i .d1 ≡ pos 0) × (figuresAt scale nominal x i .d2 ≡ pos 0) × (figuresAt scale nominal x i .mark ≡ 1)
   unfolding figuresAt joined
   figures-none e =
       let d = differences-none (phaseAt scale x (i - 1)) (phaseAt scale x i) (phaseAt scale x (i + 1)) e in
       (ap (λ (t : Differences). t .d1) d, ap (λ (t : Differences). t .d2) d, ap (λ (t : Differences). t .mark) d)
 
-  -- and the mark is 1 then only
-  pub marked-none : figuresAt scale nominal x i .mark ≡ 1 → oneNone ≡ true
+  -- and else the mark is 0
+  pub figures-some : oneNone scale x i ≡ false → figuresAt scale nominal x i .mark ≡ 0
   unfolding figuresAt joined
-  marked-none e = pick oneNone refl
-    where
-      pick : (t : Bool) → oneNone ≡ t → oneNone ≡ true
-      pick true h = h
-      pick false h =
-          let d = differences-some (phaseAt scale x (i - 1)) (phaseAt scale x i) (phaseAt scale x (i + 1)) h in
-          absurd (omega (arith, e, ap (λ (t : Differences). t .mark) d))
+  figures-some e =
+      ap (λ (t : Differences). t .mark) (differences-some (phaseAt scale x (i - 1)) (phaseAt scale x i) (phaseAt scale x (i + 1)) e)

@@ -11,7 +11,7 @@ use lib.Signed.{ltZ}
 use Rattle.ints.proofs.Size.{size-neg, size-mul}
 use Rattle.ints.proofs.Ring.{negℤ-*ℤ}
 use Rattle.ints.proofs.Cases.{both-true}
-use Rattle.model.specs.Angle.{angleOf, zeroTurn, quarterTurn, gains, arctan, above, below, step, steps, turned, scaled, noPhase, phaseAngle, phaseOf}
+use Rattle.model.specs.Angle.{angleOf, quarterTurn, gains, arctan, above, below, step, steps, turned, scaled, noPhase, phaseAngle, phaseOf}
 use Rattle.model.specs.declared.angle.Angle.{Angle}
 use Rattle.model.specs.declared.angle.Phase.{Phase}
 use Rattle.model.specs.declared.angle.Turning.{Turning}

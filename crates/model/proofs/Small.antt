@@ -1,6 +1,6 @@
 -- How large re and im are: three entries five apart are together at most 32768 in size and the weights add to 225, so samples of at most m give parts
 -- of at most 225 · 32768 · m. Of 16-bit samples re and im lie within ±362387865600. Assumes nothing.
-use mathlib.Core.Path.{_≡_, sym, _∙_, ap, subst}
+use mathlib.Core.Path.{sym, _∙_, ap, subst}
 use mathlib.Core.List.{List}
 use Prim.Native.Nat.{ℕ, _+_, _-_, _*_, _≤_, _<_}
 use native.Mathlib.Nat.{le-refl, mul-add, add-mul, mul-le-mul-left}
@@ -43,7 +43,8 @@ module _ (m : ℕ) (table : List ℤ) (h : Trios table) where
   weighted-size : (x : ℕ → Sample) (i : ℕ) → CountsAt m x i → natAbs (weighted table x i) ≤ 225 * (m * 32768)
   unfolding weighted term weights
   weighted-size x i w =
-      subst (λ (n : ℕ). natAbs (weighted table x i) ≤ n * (m * 32768)) weights-all (sum-size 29 (term table x i) (λ (j : ℕ). weights j * (m * 32768)) (λ j l. grown j (one j l)))
+      let total = sum-size 29 (term table x i) (λ (j : ℕ). weights j * (m * 32768)) (λ j l. grown j (one j l)) in
+      subst (λ (n : ℕ). natAbs (weighted table x i) ≤ n * (m * 32768)) weights-all total
     where
       one : (j : ℕ) → j < 29 → natAbs (pos (weight (offset j)) *ℤ phaseSum table (x (i + j - 14)) (i + j - 14)) ≤ weight (offset j) * (m * 32768)
       one j l = size-mul-le (pos (weight (offset j))) (phaseSum table (x (i + j - 14)) (i + j - 14)) (le-refl (weight (offset j))) (phase-sum-size (x (i + j - 14)) (w j l) (i + j - 14))
