@@ -1,7 +1,7 @@
 -- What CR 5 promises holds: the sizes of both parts decide whether there is a phase, the phases at three centres decide the mark, and noise of two
 -- counts gives parts of at most 14745600. Assumes nothing.
 use mathlib.Core.Path.{_≡_, refl, sym, ap, _∙_, subst}
-use mathlib.Core.Bool.{Bool, true, false, _||_, or-true}
+use mathlib.Core.Bool.{Bool, true, false, or-true}
 use mathlib.Core.Logic.{_↔_}
 use Prim.Native.Nat.{ℕ, _+_, _-_, _≤_, _<_}
 use native.Mathlib.Decide.{decLt}

@@ -25,7 +25,7 @@ pub record BelowAbout (x : ℕ → Sample) (i : ℕ) : Type 0 where
   pub not-later : centre ≤ i + 1
   pub below : Below (positive x centre .re) (positive x centre .im)
 
--- a report that shows no frequency
+-- a report that shows no frequency: d1 = d2 = 0, and the no-phase mark is 1
 pub record NoFrequency (f : Figures) : Type 0 where
   pub d1-zero : f .d1 ≡ pos 0
   pub d2-zero : f .d2 ≡ pos 0
