@@ -14,7 +14,7 @@ import tempfile
 
 from centres import one_at_the_edge
 from commands import dispatch, feed, tallied
-from inputs import any_sample, any_stretch, dead_noise, opening_pairs, sample_at, steady_wave
+from inputs import any_sample, any_stretch, dead_in_between, dead_noise, opening_pairs, sample_at, steady_wave
 from reference import (
     HEADER_BYTES, LAST_SOC, SERVED, VERSIONS, cos, kept_rate, listing, passed_rate, sampling)
 
@@ -107,9 +107,8 @@ def dead_feeder(nominal, rate, seconds, *amplitudes):
 
 def dies_and_comes_back(nominal, rate, seconds):
     """The nominal frequency, but noise of two counts in the second third."""
-    third = int(seconds * sampling(nominal)) // 3
-    wave = steady_wave(nominal, nominal, AMPLITUDE, 3 * third)
-    return header(nominal, rate) + body(wave[:third] + dead_noise(random.Random(6), third) + wave[2 * third:])
+    wave = steady_wave(nominal, nominal, AMPLITUDE, int(seconds * sampling(nominal)) // 3 * 3)
+    return header(nominal, rate) + body(dead_in_between(random.Random(6), wave))
 
 
 def edge_cases():

@@ -48,6 +48,12 @@ def dead_noise(rng, count, amplitude=2):
     return [noise_sample(rng, amplitude) for _ in range(count)]
 
 
+def dead_in_between(rng, wave):
+    """A wave with the noise of a dead feeder in its second third."""
+    third = len(wave) // 3
+    return wave[:third] + dead_noise(rng, third) + wave[2 * third:]
+
+
 def rail_sample(rng):
     """A sample with each phase at either rail."""
     return tuple(rng.choice((LOW, HIGH)) for _ in range(3))

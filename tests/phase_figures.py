@@ -13,6 +13,7 @@ from inputs import dead_noise
 from reference import (
     BANK_BYTES, NO_PHASE_BELOW, SERVED, Figures, angle, bits, cos, listing, no_phase, open_feed, peak_counts,
     positive_sequence, push, sin, whole_run)
+from scenes import impulse_runs
 
 QUARTER, EIGHTH = 2**30, 2**29
 MOST = 362387865600
@@ -127,15 +128,10 @@ def quarter_turns():
 # ---------------------------------------------------------------------------
 # Reports of a dead feeder
 
-def impulse(phase, at):
-    """61 samples that are 1 in one phase at one index, else 0."""
-    return [tuple(1 if (n, p) == (at, phase) else 0 for p in range(3)) for n in range(61)]
-
-
 def single_samples():
     """P: one sample of 1, seen from centre 30, with mark 1."""
     for phase, at, sums in ((0, 30, (245760, 0)), (0, 31, (209552, -93296)), (1, 35, (163840, 0))):
-        samples = impulse(phase, at)
+        samples = list(zip(*impulse_runs(phase, at)))
         yield positive_sequence(lambda n: samples[n], 30), sums
         for nominal in SERVED:
             yield run_of(samples, nominal, 30), figures_without_phase(*sums)

@@ -2,7 +2,7 @@
 
 from centres import (
     ANGLES, RESIDUES, after_angle_0, beyond_32_bits, one_at_the_edge, several_at_the_edge, truncation_told)
-from inputs import dead_noise, steady_wave
+from inputs import dead_in_between, dead_noise, steady_wave
 from reference import frame_spacing
 from scenes import push_window, run_window
 
@@ -56,7 +56,7 @@ def dead_feeders(maker):
         count = frame_spacing(nominal, rate) + 40
         wave = steady_wave(nominal, nominal + rng.uniform(-2, 2), 20000, 3 * count, rng.random())
         maker.open(slot, nominal, rate)
-        for sample in wave[:count] + dead_noise(rng, count) + wave[2 * count:]:
+        for sample in dead_in_between(rng, wave):
             maker.push(slot, sample)
         maker.close(slot)
     for slot, amplitude in ((2, 1), (3, 2)):

@@ -1,7 +1,7 @@
 -- What CR 5 promises holds: the sizes of both parts decide whether there is a phase, the phases at three centres decide the mark, and noise of two
 -- counts gives parts of at most 14745600. Assumes nothing.
 use mathlib.Core.Path.{_≡_, refl, sym, ap, _∙_, subst}
-use mathlib.Core.Bool.{Bool, true, false, or-true}
+use mathlib.Core.Bool.{Bool, true, false, or-true, not-eq-not}
 use mathlib.Core.Logic.{_↔_}
 use Prim.Native.Nat.{ℕ, _+_, _-_, _≤_, _<_}
 use native.Mathlib.Decide.{decLt}
@@ -73,12 +73,8 @@ module _ (nominal : Nominal) (x : ℕ → Sample) (i : ℕ) where
       let after = at-phase (i + 1) (omega arith) (omega arith) in
       figures-some threePhase nominal x i (simp (before, centre, after))
     where
-      not-true : (t : Bool) → (t ≡ true → ⊥) → t ≡ false
-      not-true true n = absurd (n refl)
-      not-true false n = refl
-
       at-phase : (k : ℕ) → i ≤ k + 1 → k ≤ i + 1 → none-at k ≡ false
-      at-phase k sooner later = not-true (none-at k) (λ e. h (record { centre = k; not-sooner = sooner; not-later = later; below = decided k .0 e }))
+      at-phase k sooner later = not-eq-not {a = none-at k} {b = false} .0 (λ e. h (record { centre = k; not-sooner = sooner; not-later = later; below = decided k .0 e }))
 
   leads-off : ((j : ℕ) → j < 29 → Noise (x (i + j - 14))) → NoFrequency (figuresAt threePhase nominal x i)
   leads-off w =

@@ -1,6 +1,6 @@
 -- Damage by the slot's state: over 1, free, open. Assumes nothing.
 use mathlib.Core.Path.{_≡_, refl, sym, _∙_, ap}
-use mathlib.Core.Bool.{Bool, true, false, cond, not, _&&_, _||_}
+use mathlib.Core.Bool.{Bool, true, false, cond, not, _&&_, _||_, or-false, and-false}
 use mathlib.Core.List.{List}
 use Prim.Native.Nat.{ℕ, _<_}
 use lib.Dec.{ltb}
@@ -22,14 +22,6 @@ or-not u e = ap (λ (v : Bool). v || u) e
 pub or-either : (t : Bool) {u : Bool} → u ≡ true → (t || u) ≡ true
 or-either true e = refl
 or-either false e = e
-
-or-false : (t : Bool) → (t || false) ≡ t
-or-false true = refl
-or-false false = refl
-
-and-false : (t : Bool) → (t && false) ≡ false
-and-false true = refl
-and-false false = refl
 
 module _ (s : List ℕ) where
   pub over-damaged : 1 < stateIn s → isDamaged s ≡ true

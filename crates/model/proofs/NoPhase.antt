@@ -1,7 +1,7 @@
 -- Two tests, against a limit and its negative, are one of the size; and the phase by whether there is one, which the sizes of both parts decide.
 -- Assumes nothing.
 use mathlib.Core.Path.{_≡_, refl, sym, _∙_, ap, subst}
-use mathlib.Core.Bool.{Bool, true, false, cond, _&&_, and-true}
+use mathlib.Core.Bool.{Bool, true, false, cond, _&&_, and-true, and-false}
 use mathlib.Core.Logic.{_↔_}
 use Prim.Native.Nat.{ℕ, zero, suc, _<_}
 use borrow.Author.Tests.{lt-ltb}
@@ -13,10 +13,6 @@ use Rattle.ints.proofs.Cases.{when-true, when-false, both-true}
 use Rattle.model.specs.Angle.{noPhase, phaseAngle, phaseOf, zeroTurn}
 use Rattle.model.specs.declared.angle.Phase.{Phase}
 use Rattle.model.specs.declared.filter.Phasor.{Phasor}
-
-and-false : (b : Bool) → (b && false) ≡ false
-and-false true = refl
-and-false false = refl
 
 -- -n < z and z < n
 pub between : (n : ℕ) (z : ℤ) → (ltZ (negℤ (pos n)) z && ltZ z (pos n)) ≡ ltb (natAbs z) n

@@ -1,7 +1,7 @@
 -- Turning a phasor by a quarter turn adds exactly a quarter turn to its angle, where there is a phase; and there is one before exactly where there
 -- is one after. The turn into the first quadrant takes off a quarter more, and each step hands that on. Assumes nothing.
 use mathlib.Core.Path.{_≡_, refl, sym, _∙_, ap, subst}
-use mathlib.Core.Bool.{Bool, true, false, cond, _&&_}
+use mathlib.Core.Bool.{Bool, true, false, cond, _&&_, and-comm}
 use Prim.Native.Nat.{ℕ, zero, suc, _+_, _-_, _*_, _%_, _^_, _≤_}
 use native.Mathlib.Omega.{arith}
 use borrow.Author.Tests.{lt-ltb, le-leb, lt-leb}
@@ -99,12 +99,6 @@ angle-quarter limit l p h =
 no-phase-quarter : (limit : ℕ) (p : Phasor) → noPhase limit (quarterOn p) ≡ noPhase limit p
 unfolding noPhase
 no-phase-quarter limit p = ap (λ (n : ℕ). ltb n limit && ltb (natAbs (p .re)) limit) (size-neg (p .im)) ∙ and-comm (ltb (natAbs (p .im)) limit) (ltb (natAbs (p .re)) limit)
-  where
-    and-comm : (a b : Bool) → (a && b) ≡ (b && a)
-    and-comm true true = refl
-    and-comm true false = refl
-    and-comm false true = refl
-    and-comm false false = refl
 
 -- ---- the law
 
