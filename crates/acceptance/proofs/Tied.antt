@@ -6,7 +6,7 @@ use Rattle.sampling.proofs.Unique.{nominal-sampling-unique, served-nominal-uniq
 use Rattle.header.proofs.Unique.{read-header-unique}
 use Rattle.text.proofs.Unique.{put-unique, put-hex-unique}
 use Rattle.model.proofs.Unique.{measure-unique}
-use Rattle.feed.proofs.Unique.{head-is-faulty-unique, feed-open-unique, feed-push-unique, sample-of-unique}
+use Rattle.feed.proofs.Unique.{head-is-faulty-unique, feed-open-unique, feed-push-unique, sample-of-unique, place-of-unique}
 use Rattle.bank.proofs.Unique.{clear-unique, open-unique, push-unique, close-unique, damage-of-unique}
 use Rattle.salvage.proofs.Unique.{mend-unique}
 use Rattle.runs.proofs.Unique.{measure-unique as run-unique}
@@ -74,6 +74,9 @@ tied = record {
   feed-sample-of-asks-nothing = λ κs a. tt;
   feed-sample-of-says = λ κs a r s p. p;
   feed-sample-of-unique = λ κs a r q s t. sample-of-unique (a .0) r q;
+  feed-place-of-asks-nothing = λ κs a. tt;
+  feed-place-of-says = λ κs a r s p. p;
+  feed-place-of-unique = λ κs a r q s t. place-of-unique (a .0) r q;
   bank-clear-asks-nothing = λ κs a. tt;
   bank-clear-says = λ κs a r s p. p;
   bank-clear-unique = λ κs a r q s t. clear-unique (now (a .0)) r q (now (s .0)) (now (t .0));

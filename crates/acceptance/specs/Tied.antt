@@ -15,7 +15,7 @@ use Rattle.header.specs.Header.{Heading}
 use Rattle.text.specs.Text.{hexBytes}
 use Rattle.text.specs.Put.{Put, filled, roomFor}
 use Rattle.model.specs.Report.{Measuring}
-use Rattle.feed.specs.Places.{sampleOf}
+use Rattle.feed.specs.Places.{sampleOf, placeOf}
 use Rattle.feed.specs.Ring.{faulty, opened, Pushing as FeedPushing}
 use Rattle.bank.specs.Damage.{damageOf}
 use Rattle.bank.specs.Calls.{Clearing, Opening, Pushing, Closing}
@@ -42,6 +42,7 @@ use Rattle.feed.proofs.Head.«is_faulty».Reads as faultyReads
 use Rattle.feed.proofs.Feed.open.Reads as feedOpenReads
 use Rattle.feed.proofs.Feed.push.Reads as feedPushReads
 use Rattle.feed.proofs.«sample_of».Reads as sampleOfReads
+use Rattle.feed.proofs.«place_of».Reads as placeOfReads
 use Rattle.bank.proofs.clear.Reads as clearReads
 use Rattle.bank.proofs.open.Reads as openReads
 use Rattle.bank.proofs.push.Reads as pushReads
@@ -145,6 +146,10 @@ pub record Tied : Type 0 where
   pub feed-sample-of-asks-nothing : (κs : _) → AsksNothing (sampleOfReads.Pre κs)
   pub feed-sample-of-says : (κs : _) (a : _) (r : _) (s : _) → sampleOfReads.Post κs a r s → r ≡ sampleOf (a .0)
   pub feed-sample-of-unique : (κs : _) → OneAnswer (sampleOfReads.Post κs)
+  -- `place_of`
+  pub feed-place-of-asks-nothing : (κs : _) → AsksNothing (placeOfReads.Pre κs)
+  pub feed-place-of-says : (κs : _) (a : _) (r : _) (s : _) → placeOfReads.Post κs a r s → r ≡ placeOf (a .0)
+  pub feed-place-of-unique : (κs : _) → OneAnswer (placeOfReads.Post κs)
   -- ---- bank
   -- `clear`
   pub bank-clear-asks-nothing : (κs : _) → AsksNothing (clearReads.Pre κs)

@@ -11,7 +11,7 @@ use Rattle.feed.specs.declared.Answer.{Answer}
 use Rattle.feed.specs.declared.Answer.the-variants.{Refused, Taken, Reported}
 use Rattle.feed.specs.declared.Pushed.{Pushed}
 use Rattle.feed.specs.Answers.{Said, refused, done, taken, takenWith, said}
-use Rattle.feed.specs.Places.{sampleOf}
+use Rattle.feed.specs.Places.{sampleOf, placeOf}
 use Rattle.feed.specs.Ring.{Next, faulty, opened, Pushing}
 
 -- the answer of which this is said; no push answers "done"
@@ -52,3 +52,6 @@ feed-push-unique f s r q e d =
 
 pub sample-of-unique : (bytes : List ℕ) (r q : Sample) → r ≡ sampleOf bytes → q ≡ sampleOf bytes → r ≡ q
 sample-of-unique bytes r q e d = e ∙ sym d
+
+pub place-of-unique : (s : Sample) (r q : List ℕ) → r ≡ placeOf s → q ≡ placeOf s → r ≡ q
+place-of-unique s r q e d = e ∙ sym d

@@ -5,6 +5,7 @@ use model::Sample;
 use model::measure;
 use places::more_held;
 use places::next_place;
+pub use places::place_of;
 use places::put_sample;
 use places::sample_at;
 pub use places::sample_of;

@@ -8,7 +8,7 @@ ghost use Prim.Native.Nat.{_+_, _*_, _/_, _%_, _≤_};
 ghost use lib.Dec.{ltb, eqb};
 ghost use lib.ListN.{length, getD, set, take, drop};
 ghost use Rattle.bits.specs.Bits.{be16, signed16, bits16};
-ghost use Rattle.feed.specs.Places.{sampleOf, withPlace};
+ghost use Rattle.feed.specs.Places.{sampleOf, placeOf, withPlace};
 
 // The place after a place: 30 to 0.
 pub(crate) fn next_place(place: u8) -> u8
@@ -57,6 +57,23 @@ pub(crate) fn sample_at(places: &[u8], place: usize) -> Sample
     let b = signed_at(places, at + 2);
     let c = signed_at(places, at + 4);
     Sample { a, b, c }
+}
+
+// A sample's six bytes: a, b, c.
+pub fn place_of(s: Sample) -> [u8; 6]
+    ensures { λ r. ⌜ r ≡ placeOf s ⌝ }
+{
+    let a = bits(s.a);
+    let b = bits(s.b);
+    let c = bits(s.c);
+    [
+        (a / 256) as u8,
+        (a % 256) as u8,
+        (b / 256) as u8,
+        (b % 256) as u8,
+        (c / 256) as u8,
+        (c % 256) as u8,
+    ]
 }
 
 // A number's two bytes, put in the places.
