@@ -28,7 +28,7 @@ module _ {bank : List ℕ} {slot : ℕ} {s : List ℕ} (l : StandsIn bank slot s
   pub seen : {A : Type 0} {v : A} (f : List ℕ → A) → f s ≡ v → f (slotAt bank slot) ≡ v
   seen f e = ap f (l .there) ∙ e
 
-  pub unmoved : withSlot bank slot s ≡ bank
+  unmoved : withSlot bank slot s ≡ bank
   unmoved = ap (λ (t : List ℕ). withSlot bank slot t) (sym (l .there)) ∙ put-back bank slot
 
   pub unaltered : (answer : Said) → _≡_ {A = Outcome} (record { answer = answer; bank = withSlot bank slot s }) (record { answer = answer; bank = bank })

@@ -11,5 +11,5 @@ pub mod Found
 pub mod Stray
 pub mod Free
 pub mod States
-pub mod Beside
+pub mod Written
 pub mod Through

@@ -2,12 +2,13 @@
 use mathlib.Core.Path.{_≡_, refl, sym, _∙_, ap}
 use mathlib.Core.Bool.{Bool, true, false, cond, not, _&&_, _||_, or-false, and-false}
 use mathlib.Core.List.{List}
-use Prim.Native.Nat.{ℕ, _<_}
+use Prim.Native.Nat.{ℕ, _≤_, _<_}
 use lib.Dec.{ltb}
-use borrow.Author.Tests.{eqb-true, ne-eqb, lt-ltb, ltb-true, not-true}
+use borrow.Author.Tests.{eqb-true, ne-eqb, lt-ltb, ltb-true, ltb-false, not-true}
 use Rattle.feed.specs.declared.Head.{Head}
 use Rattle.sampling.specs.Sampling.{samplingOf}
 use Rattle.feed.specs.Ring.{unserved, uneven, early, faulty}
+use Rattle.feed.proofs.Sound.{neither}
 use Rattle.bank.specs.declared.damage.Damage.the-variants.{Stray, Other}
 use Rattle.bank.specs.Slot.{stateIn, headIn}
 use Rattle.bank.specs.Damage.{blank, isOpen, stray, isDamaged, onlyStray, damageOf}
@@ -81,3 +82,7 @@ module _ (s : List ℕ) where
       go : (t : Bool) → stray s ≡ t → (t || ltb 30 (headIn s .place)) ≡ true → isDamaged s ≡ true
       go true p e = open-damaged s one ∙ or-either (faulty (headIn s)) p
       go false p e = open-damaged s one ∙ or-so _ (place-over (headIn s) (ltb-true 30 (headIn s .place) e))
+
+  -- neither, by a flag that is the first test
+  pub no-stray-nor-over : {strays : Bool} → strays ≡ stray s → (strays || ltb 30 (headIn s .place)) ≡ false → (stray s ≡ false) × (headIn s .place ≤ 30)
+  no-stray-nor-over {strays} e f = let both = neither strays _ f in (sym e ∙ both .0, ltb-false 30 (headIn s .place) (both .1))

@@ -1,13 +1,12 @@
 -- What the functions inside ask and promise of a slot's 256 bytes. A reader of the calls' promises needs nothing of this.
 use mathlib.Core.Path.{_≡_}
 use mathlib.Core.List.{List, [], _∷_, _++_}
-use Prim.Native.Nat.{ℕ, _+_, _*_, _≤_}
+use Prim.Native.Nat.{ℕ, _*_, _≤_}
 use lib.ListN.{length, take, drop}
 use Rattle.refusals.specs.Refusals.{unlessRefused}
-use Rattle.feed.specs.declared.Feed.{Feed}
 use Rattle.bank.specs.declared.slot.Found.{Found}
 use Rattle.bank.specs.declared.slot.Found.the-variants.{Refused, At}
-use Rattle.bank.specs.Slot.{slotAt, withSlot, placesIn, tailIn, tailOf}
+use Rattle.bank.specs.Slot.{slotAt, withSlot}
 use Rattle.bank.specs.Calls.{wrongLength, noSlot}
 
 -- what `find` promises: the refusal that is due, 1 or 2, or where the slot begins
@@ -27,10 +26,3 @@ Lent promise before after = (bank : List ℕ) (slot : ℕ) → StandsIn bank slo
 -- the bytes with a part put over k of them, from byte n on
 abbrev pub withPart : ℕ → ℕ → List ℕ → List ℕ → List ℕ
 withPart n k part s = take n s ++ (part ++ drop k (drop n s))
-
--- the feed differs from the slot's by its numbers and by the six bytes of one place
-pub record Beside (place : ℕ) (s : List ℕ) (f : Feed) : Type 0 where
-  pub six : List ℕ
-  pub count : length six ≡ 6
-  pub places : f .places ≡ take (6 * place) (placesIn s) ++ (six ++ drop (6 * place + 6) (placesIn s))
-  pub tail : tailIn s ≡ tailOf f

@@ -30,7 +30,7 @@ pub(crate) fn push_slot(slot: &mut [u8], s: Sample) -> Answer
 }
 
 // A push, of an open slot. Stray bytes and a place over 30 are refused here; the feed passes through as one value, which refuses its other
-// faults with 3, then 8, and goes back.
+// faults with 3, then 8. Where the sample is taken, what it changes of the feed goes back.
 fn push_open(slot: &mut [u8], s: Sample) -> Answer
     requires { ⌜ (length (now slot) ≡ 256) × (stateIn (now slot) ≡ 1) ⌝ }
     ensures { λ r. ⌜ Lent (λ bank n after. Pushing bank n s r after) (now (slot .entry)) (now (slot .exit)) ⌝ }
@@ -41,6 +41,13 @@ fn push_open(slot: &mut [u8], s: Sample) -> Answer
     }
     let feed = read_feed(slot);
     let next = feed.push(s);
-    put_back(slot, place, next.feed);
-    next.answer
+    let head = next.feed.head;
+    let answer = next.answer;
+    match answer {
+        Answer::Refused(number) => Answer::Refused(number),
+        _ => {
+            put_back(slot, place, head, s);
+            answer
+        }
+    }
 }

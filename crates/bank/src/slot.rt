@@ -3,13 +3,14 @@ use bits::be16;
 use bits::be32;
 use feed::Feed;
 use feed::Head;
+use feed::place_of;
+use model::Sample;
 ghost use mathlib.Core.Path.{_≡_};
-ghost use Prim.Native.Nat.{_+_, _*_, _≤_, _<_};
-ghost use lib.ListN.{length, take, drop};
-ghost use Rattle.bits.specs.Bits.{be16};
-ghost use Rattle.feed.specs.Places.{zeros};
-ghost use Rattle.bank.specs.Slot.{headIn, headBytes, placesIn, feedIn, slotOf};
-ghost use Rattle.bank.specs.Inside.{Finds, withPart, Beside};
+ghost use Prim.Native.Nat.{_+_, _*_, _≤_};
+ghost use lib.ListN.{length, drop};
+ghost use Rattle.feed.specs.Places.{zeros, placeOf};
+ghost use Rattle.bank.specs.Slot.{headIn, headBytes, placesIn, feedIn};
+ghost use Rattle.bank.specs.Inside.{Finds, withPart};
 ghost use mathlib.Core.List.{_++_};
 
 // Where a slot begins in its bank, or the refusal.
@@ -113,25 +114,22 @@ pub(crate) fn put_head(s: &mut [u8], h: Head)
     put(&mut s[0..11], &head);
 }
 
-// One of the places goes into a slot. The other bytes stay.
-fn put_place(s: &mut [u8], place: u8, places: &[u8])
-    requires { ⌜ (length (now s) ≡ 256) × (length (now places) ≡ 186) × (place ≤ 30) ⌝ }
-    ensures { λ _. ⌜ now (s .exit) ≡ withPart (11 + 6 * place) 6 (take 6 (drop (6 * place) (now (places .entry)))) (now (s .entry)) ⌝ }
+// A sample's six bytes go into a place of a slot. The other bytes stay.
+fn put_place(s: &mut [u8], place: u8, x: Sample)
+    requires { ⌜ (length (now s) ≡ 256) × (place ≤ 30) ⌝ }
+    ensures { λ _. ⌜ now (s .exit) ≡ withPart (11 + 6 * place) 6 (placeOf x) (now (s .entry)) ⌝ }
 {
-    let at = 6 * (place as usize);
-    let end = at + 6;
-    let from = 11 + at;
+    let six = place_of(x);
+    let from = 11 + 6 * (place as usize);
     let to = from + 6;
-    put(&mut s[from..to], &places[at..end]);
+    put(&mut s[from..to], &six);
 }
 
-// A feed goes back into its slot after a push: the numbers, and the place of the sample. The slot's other bytes are the feed's already.
-pub(crate) fn put_back(s: &mut [u8], place: u8, f: Feed)
+// What a push changes goes back into the slot: the numbers, and the sample in its place. The other bytes stay.
+pub(crate) fn put_back(s: &mut [u8], place: u8, h: Head, x: Sample)
     requires { ⌜ (length (now s) ≡ 256) × (place ≤ 30) ⌝ }
-    requires { ⌜ Beside place (now s) f ⌝ }
-    ensures { λ _. ⌜ now (s .exit) ≡ slotOf f ⌝ }
+    ensures { λ _. ⌜ now (s .exit) ≡ withPart (11 + 6 * place) 6 (placeOf x) (headBytes h ++ drop 11 (now (s .entry))) ⌝ }
 {
-    let places = f.places;
-    put_head(s, f.head);
-    put_place(s, place, &places);
+    put_head(s, h);
+    put_place(s, place, x);
 }
