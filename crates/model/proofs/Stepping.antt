@@ -1,13 +1,14 @@
 -- One step, by the sign of im; the steps that are left, one fewer; and how large both parts grow: from step to step by a floor at most, so that
 -- they stay within 2^60. Assumes nothing.
-use mathlib.Core.Path.{_≡_, refl, sym, ap, subst}
-use mathlib.Core.Bool.{Bool, true, false, cond}
-use Prim.Native.Nat.{ℕ, zero, suc, _+_, _-_, _^_, _≤_, _<_}
-use native.Mathlib.Nat.{le-refl, le-trans, add-zero, add-suc, not-suc-le-zero}
+use mathlib.Core.Path.{_≡_, refl, sym, ap, subst, _∙_}
+use mathlib.Core.Bool.{Bool, true, false, cond, not}
+use Prim.Native.Nat.{ℕ, zero, suc, _+_, _-_, _^_, _≤_, _<_, zero-le}
+use native.Mathlib.Nat.{zero-lt-suc, le-refl, le-trans, add-zero, add-suc, not-suc-le-zero}
 use native.Mathlib.Omega.{arith}
+use borrow.Author.Tests.{lt-ltb, le-ltb}
 use lib.Dec.{lit≤}
 use lib.Pow.{pow-pos}
-use lib.IntN.{ℤ, pos, natAbs, _+ℤ_, _-ℤ_}
+use lib.IntN.{ℤ, pos, negsuc, natAbs, _+ℤ_, _-ℤ_}
 use lib.Signed.{ltZ}
 use mir.Syntax.{w64}
 use mir.Val.{SFits, toZ, ofZ}
@@ -19,29 +20,35 @@ use Rattle.model.specs.Bounds.{cap, Sized}
 use Rattle.model.specs.declared.angle.Turning.{Turning}
 
 -- ---- the step, by the sign of im
+
+-- a number that is not 0 is above it where it is not below
+other-sign : (z : ℤ) → (z ≡ pos 0 → ⊥) → ltZ (pos 0) z ≡ not (ltZ z (pos 0))
+other-sign (pos zero) h = absurd (h refl)
+other-sign (pos (suc n)) h = lt-ltb 0 (suc n) (zero-lt-suc n) ∙ ap not (sym (le-ltb (suc n) 0 zero-le))
+other-sign (negsuc n) h = refl
+
 module _ (i : ℕ) (v : Turning) where
-  -- the sign chooses the step part by part
-  pub step-chosen : let t = ltZ (pos 0) (v .im) in let u = ltZ (v .im) (pos 0) in
-      _≡_ {A = Turning}
-      (record {
-        re = cond t ((above i v) .re) (cond u ((below i v) .re) (v .re));
-        im = cond t ((above i v) .im) (cond u ((below i v) .im) (v .im));
-        angle = cond t ((above i v) .angle) (cond u ((below i v) .angle) (v .angle));
-      })
-      (step i v)
+  -- where im is 0, nothing changes
+  pub step-still : v .im ≡ pos 0 → v ≡ step i v
   unfolding step
-  step-chosen = pick (ltZ (pos 0) (v .im)) (ltZ (v .im) (pos 0))
+  step-still e = ap (λ (z : ℤ). cond (ltZ (pos 0) z) (above i v) (cond (ltZ z (pos 0)) (below i v) v)) (sym e)
+
+  -- each part by a test: the step below 0, or the one above
+  abbrev pub chosen : Bool → Turning
+  chosen u = record {
+    re = cond u ((below i v) .re) ((above i v) .re);
+    im = cond u ((below i v) .im) ((above i v) .im);
+    angle = cond u ((below i v) .angle) ((above i v) .angle);
+  }
+
+  -- elsewhere the sign of im chooses each part
+  pub step-chosen : (v .im ≡ pos 0 → ⊥) → chosen (ltZ (v .im) (pos 0)) ≡ step i v
+  unfolding step
+  step-chosen h = go (ltZ (v .im) (pos 0)) ∙ ap (λ (t : Bool). cond t (above i v) (cond (ltZ (v .im) (pos 0)) (below i v) v)) (sym (other-sign (v .im) h))
     where
-      pick : (t u : Bool) → _≡_ {A = Turning}
-          (record {
-            re = cond t ((above i v) .re) (cond u ((below i v) .re) (v .re));
-            im = cond t ((above i v) .im) (cond u ((below i v) .im) (v .im));
-            angle = cond t ((above i v) .angle) (cond u ((below i v) .angle) (v .angle));
-          })
-          (cond t (above i v) (cond u (below i v) v))
-      pick true u = refl
-      pick false true = refl
-      pick false false = refl
+      go : (u : Bool) → chosen u ≡ cond (not u) (above i v) (cond u (below i v) v)
+      go true = refl
+      go false = refl
 
 -- what is read back of numbers that fit is what was handed on
 pub handed-on : (v : Turning) → SFits w64 (v .re) → SFits w64 (v .im)

@@ -95,24 +95,18 @@ fn floor_shift(z: i64, i: usize) -> i64
     z >> i
 }
 
-// One of three numbers, by two tests.
-fn chosen(above: bool, below: bool, x: i64, y: i64, z: i64) -> i64
-    ensures { λ r. ⌜ r ≡ cond above x (cond below y z) ⌝ }
+// The first of two numbers where the test holds, else the second.
+fn either(test: bool, x: i64, y: i64) -> i64
+    ensures { λ r. ⌜ r ≡ cond test x y ⌝ }
 {
-    if above {
-        return x;
-    }
-    if below { y } else { z }
+    if test { x } else { y }
 }
 
-// One of three angles, by two tests.
-fn chosen_angle(above: bool, below: bool, x: Angle, y: Angle, z: Angle) -> Angle
-    ensures { λ r. ⌜ r ≡ cond above x (cond below y z) ⌝ }
+// The first of two angles where the test holds, else the second.
+fn either_angle(test: bool, x: Angle, y: Angle) -> Angle
+    ensures { λ r. ⌜ r ≡ cond test x y ⌝ }
 {
-    if above {
-        return x;
-    }
-    if below { y } else { z }
+    if test { x } else { y }
 }
 
 // Step i, on what the step before it left, where a is A(i).
@@ -121,14 +115,16 @@ fn one_step(re: i64, im: i64, angle: Angle, i: usize, a: u32) -> Turning
     requires { ⌜ Sized (2 ^ 60) re im ⌝ }
     ensures { λ r. ⌜ r ≡ step i (record { re = re; im = im; angle = angle }) ⌝ }
 {
+    if im == 0 {
+        return Turning { re, im, angle };
+    }
+    let below = im < 0;
     let re_part = floor_shift(re, i);
     let im_part = floor_shift(im, i);
-    let above = im > 0;
-    let below = im < 0;
     Turning {
-        re: chosen(above, below, re + im_part, re - im_part, re),
-        im: chosen(above, below, im - re_part, im + re_part, im),
-        angle: chosen_angle(above, below, angle.more(a), angle.fewer(a), angle),
+        re: either(below, re - im_part, re + im_part),
+        im: either(below, im + re_part, im - re_part),
+        angle: either_angle(below, angle.fewer(a), angle.more(a)),
     }
 }
 
