@@ -5,6 +5,7 @@ use Rattle.bits.proofs.Unique.{be16-unique, be32-unique, signed16-unique, signe
 use Rattle.sampling.proofs.Unique.{nominal-sampling-unique, served-nominal-unique, served-rate-unique, kept-rate-unique, nominal-of-unique}
 use Rattle.header.proofs.Unique.{read-header-unique}
 use Rattle.text.proofs.Unique.{put-unique, put-hex-unique}
+use Rattle.model.specs.Filter.{lentSamples}
 use Rattle.model.proofs.Unique.{measure-unique}
 use Rattle.feed.proofs.Unique.{head-is-faulty-unique, feed-open-unique, feed-push-unique, sample-of-unique, place-of-unique}
 use Rattle.bank.proofs.Unique.{clear-unique, open-unique, push-unique, close-unique, damage-of-unique}
@@ -61,7 +62,7 @@ tied = record {
   text-put-hex-unique = λ κs a r q s t x y. both (put-hex-unique (now (a .0)) (now (a .1 .0)) (a .1 .1 .0) r q (now (s .1 .0)) (now (t .1 .0)) x y);
   model-measure-asks-nothing = λ κs a. tt;
   model-measure-says = λ κs a r s p. p;
-  model-measure-unique = λ κs a r q s t. measure-unique (a .0) (a .1 .0) (a .1 .1 .0) r q;
+  model-measure-unique = λ κs a r q s t. measure-unique (lentSamples 31 (now (a .0))) (a .1 .0) (a .1 .1 .0) r q;
   feed-head-is-faulty-asks-nothing = λ κs a. tt;
   feed-head-is-faulty-says = λ κs a r s p. p;
   feed-head-is-faulty-unique = λ κs a r q s t. head-is-faulty-unique (a .0) r q;

@@ -2,7 +2,7 @@
 -- speak of, and it admits one outcome. `lister::list`, which reads and writes, is the exception.
 -- `Pre κs a` is what the function's `requires` asks of the arguments a; `Post κs a r s` is what its `ensures` says of them, of the answer r
 -- and of the arguments when it ends, s. κs are the lifetimes; a .0, a .1 .0, a .1 .1 .0 are the arguments in their order; `now (a .0)` are
--- lent bytes before the call, `now (s .0)` when it ends.
+-- lent bytes or numbers before the call, `now (s .0)` when it ends.
 use denote.Ref.{now}
 use mathlib.Core.Path.{_≡_}
 use mathlib.Core.List.{List}
@@ -14,6 +14,7 @@ use Rattle.sampling.specs.Tags.{servedNominal, servedRate, keptRate, nominalOf}
 use Rattle.header.specs.Header.{Heading}
 use Rattle.text.specs.Text.{hexBytes}
 use Rattle.text.specs.Put.{Put, filled, roomFor}
+use Rattle.model.specs.Filter.{lentSamples}
 use Rattle.model.specs.Report.{Measuring}
 use Rattle.feed.specs.Places.{sampleOf, placeOf}
 use Rattle.feed.specs.Ring.{faulty, opened, Pushing as FeedPushing}
@@ -127,7 +128,7 @@ pub record Tied : Type 0 where
   -- ---- model
   -- `measure`
   pub model-measure-asks-nothing : (κs : _) → AsksNothing (measureReads.Pre κs)
-  pub model-measure-says : (κs : _) (a : _) (r : _) (s : _) → measureReads.Post κs a r s → Measuring (a .0) (a .1 .0) (a .1 .1 .0) r
+  pub model-measure-says : (κs : _) (a : _) (r : _) (s : _) → measureReads.Post κs a r s → Measuring (lentSamples 31 (now (a .0))) (a .1 .0) (a .1 .1 .0) r
   pub model-measure-unique : (κs : _) → OneAnswer (measureReads.Post κs)
   -- ---- feed
   -- `Head::is_faulty`

@@ -8,6 +8,7 @@ pub mod Stored
 pub mod Latest
 pub mod Words
 pub mod Samples
+pub mod Numbers
 pub mod Sound
 pub mod Standing
 pub mod Stores

@@ -1,13 +1,13 @@
 -- A list of thirty-one read round from a place: element j is the one j places on, modulo 31. Assumes nothing.
 use mathlib.Core.Path.{_≡_, refl, ap, _∙_}
-use mathlib.Core.Bool.{Bool, true, false, cond}
+use mathlib.Core.Bool.{Bool, true, false}
 use mathlib.Core.List.{List}
 use Prim.Native.Nat.{ℕ, _+_, _-_, _%_, _<_, _≤_}
 use native.Mathlib.Omega.{arith}
-use lib.Dec.{ltb, eqb}
+use lib.Dec.{ltb}
 use lib.ListN.{length, getD, take, drop, length-append, length-take, length-drop, List·getD-append}
 use lib.Seq.{getD-append-add, getD-take, getD-drop}
-use borrow.Author.Tests.{ltb-true, ltb-false, eqb-true, eqb-false}
+use borrow.Author.Tests.{ltb-true, ltb-false}
 use Rattle.feed.specs.Ring.{oldestFirst}
 
 module _ {S : Type 0} (p : ℕ) (l : List S) where
@@ -35,11 +35,3 @@ module _ {S : Type 0} (p : ℕ) (l : List S) where
           ∙ getD-append-add (drop p l) (take p l) i d
           ∙ getD-take p l i d (omega arith)
           ∙ at i (omega arith)
-
--- the place that comes j + 1 after, from the one that comes j after
-pub place-on : (p j place : ℕ) → place ≡ (p + j) % 31 → cond (eqb place 30) 0 (place + 1) ≡ (p + (j + 1)) % 31
-place-on p j place e = go (eqb place 30) refl
-  where
-    go : (b : Bool) → eqb place 30 ≡ b → cond b 0 (place + 1) ≡ (p + (j + 1)) % 31
-    go true t = omega (arith, eqb-true place 30 t)
-    go false t = let n = eqb-false place 30 t in omega arith

@@ -1,8 +1,12 @@
--- No part of any promise: what the functions of the crate answer one another, the report that comes with a sample told of the head before the sample.
+-- No part of any promise: what the functions of the crate answer one another, the report that comes with a sample told of the head before the sample,
+-- and the bytes of places as numbers.
 use mathlib.Core.Bool.{Bool, _&&_}
-use mathlib.Core.List.{List}
-use Prim.Native.Nat.{ℕ, _-_, _/_, _%_}
+use mathlib.Core.List.{List, [], _∷_}
+use Prim.Native.Nat.{ℕ, zero, suc, _-_, _/_, _%_}
 use lib.Dec.{leb, eqb}
+use lib.IntN.{ℤ}
+use lib.ListN.{getD, drop}
+use Rattle.bits.specs.Bits.{be16, signed16}
 use Rattle.model.specs.declared.filter.Sample.{Sample}
 use Rattle.model.specs.Filter.{windowed}
 use Rattle.model.specs.Report.{figuresAt, threePhase}
@@ -29,3 +33,8 @@ unfoldable pub reportWith : Head → List Sample → Said
 reportWith h window =
     tagged (centreAt h .soc) (centreAt h .index / spacing (h .nominal) (h .rate))
     (figuresAt threePhase (nominalOf (h .nominal)) (windowed window (nextNumberOf h - 30)) (centreNumber h))
+
+-- the first n numbers in bytes, two bytes each
+unfoldable pub numbersIn : ℕ → List ℕ → List ℤ
+numbersIn zero p = []
+numbersIn (suc n) p = signed16 (be16 (getD p 0 0) (getD p 1 0)) ∷ numbersIn n (drop 2 p)

@@ -7,8 +7,8 @@ use places::more_held;
 use places::next_place;
 pub use places::place_of;
 use places::put_sample;
-use places::sample_at;
 pub use places::sample_of;
+use places::window_from;
 use sampling::kept_rate;
 use sampling::nominal_of;
 use sampling::served_nominal;
@@ -16,11 +16,11 @@ use sampling::served_rate;
 ghost use mathlib.Core.Path.{_≡_};
 ghost use mathlib.Core.Bool.{false};
 ghost use Prim.Native.Nat.{_≤_};
+ghost use Rattle.model.specs.Filter.{lentSamples};
 ghost use Rattle.sampling.specs.Tags.{spacing};
 ghost use Rattle.sampling.specs.Sampling.{samplingOf};
 ghost use Rattle.feed.specs.Answers.{saidReport};
-ghost use Rattle.feed.specs.Places.{samplesOf};
-ghost use Rattle.feed.specs.Ring.{unserved, uneven, early, faulty, opened, endOfTimeOf, nextHead, oldestFirst, Pushing};
+ghost use Rattle.feed.specs.Ring.{unserved, uneven, early, faulty, opened, endOfTimeOf, nextHead, Pushing};
 ghost use Rattle.feed.specs.Inside.{centreAt, dueWith, reportWith};
 
 // The numbers of a feed: what it is opened with, how many samples it holds, where the next one stands and where it goes.
@@ -196,10 +196,10 @@ impl Head {
     }
 
     // The report that comes with the next sample, of the thirty-one samples then held: tagged with its centre's SOC and frame.
-    fn report(self, window: [Sample; 31]) -> Report
+    fn report(self, window: &[i16; 93]) -> Report
         requires { ⌜ faulty self ≡ false ⌝ }
         requires { ⌜ 30 ≤ self .held ⌝ }
-        ensures { λ r. ⌜ saidReport r ≡ reportWith self window ⌝ }
+        ensures { λ r. ⌜ saidReport r ≡ reportWith self (lentSamples 31 (now (window .entry))) ⌝ }
     {
         let centre = self.centre();
         let frame = (centre.index / self.spacing()) as u8;
@@ -240,23 +240,6 @@ impl Feed {
         }
     }
 
-    // The samples of the thirty-one places from the next one round: where all are filled, the oldest first.
-    fn window(self) -> [Sample; 31]
-        requires { ⌜ self .head .place ≤ 30 ⌝ }
-        ensures { λ r. ⌜ r ≡ oldestFirst (self .head .place) (samplesOf 31 (self .places)) ⌝ }
-    {
-        let mut window = [Sample { a: 0, b: 0, c: 0 }; 31];
-        let mut place = self.head.place;
-        let mut i: usize = 0;
-        while i < 31 {
-            let s = sample_at(&self.places, place as usize);
-            window[i] = s;
-            place = next_place(place);
-            i += 1;
-        }
-        window
-    }
-
     // One sample more. Refused 3, 8, and then nothing changes; else it goes in the next place, which then moves on one, and it is taken, with
     // the report if one is due.
     pub fn push(self, s: Sample) -> Pushed
@@ -279,7 +262,8 @@ impl Feed {
         put_sample(&mut next.places, head.place, s);
         next.head = head.next();
         if head.is_due() {
-            let report = head.report(next.window());
+            let window = window_from(&next.places, next.head.place);
+            let report = head.report(&window);
             return Pushed {
                 feed: next,
                 answer: Answer::Reported(report),

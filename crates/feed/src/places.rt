@@ -4,11 +4,14 @@ use bits::signed16;
 use model::Sample;
 ghost use mathlib.Core.Path.{_≡_};
 ghost use mathlib.Core.Bool.{cond};
-ghost use Prim.Native.Nat.{_+_, _*_, _/_, _%_, _≤_};
+ghost use Prim.Native.Nat.{_+_, _*_, _%_, _≤_};
 ghost use lib.Dec.{ltb, eqb};
-ghost use lib.ListN.{length, getD, set, take, drop};
+ghost use lib.ListN.{length, getD};
 ghost use Rattle.bits.specs.Bits.{be16, signed16, bits16};
-ghost use Rattle.feed.specs.Places.{sampleOf, placeOf, withPlace};
+ghost use Rattle.model.specs.Filter.{lentSamples};
+ghost use Rattle.feed.specs.Places.{sampleOf, samplesOf, placeOf, withPlace};
+ghost use Rattle.feed.specs.Ring.{oldestFirst};
+ghost use Rattle.feed.specs.Inside.{numbersIn};
 
 // The place after a place: 30 to 0.
 pub(crate) fn next_place(place: u8) -> u8
@@ -44,18 +47,9 @@ fn signed_at(bytes: &[u8], at: usize) -> i16
 pub fn sample_of(p: [u8; 6]) -> Sample
     ensures { λ r. ⌜ r ≡ sampleOf p ⌝ }
 {
-    sample_at(&p, 0)
-}
-
-// The sample in a place.
-pub(crate) fn sample_at(places: &[u8], place: usize) -> Sample
-    requires { ⌜ 6 * place + 6 ≤ length (now places) ⌝ }
-    ensures { λ r. ⌜ r ≡ sampleOf (take 6 (drop (6 * place) (now (places .entry)))) ⌝ }
-{
-    let at = 6 * place;
-    let a = signed_at(places, at);
-    let b = signed_at(places, at + 2);
-    let c = signed_at(places, at + 4);
+    let a = signed_at(&p, 0);
+    let b = signed_at(&p, 2);
+    let c = signed_at(&p, 4);
     Sample { a, b, c }
 }
 
@@ -76,23 +70,46 @@ pub fn place_of(s: Sample) -> [u8; 6]
     ]
 }
 
-// A number's two bytes, put in the places.
-fn put_word(places: &mut [u8; 186], at: usize, n: u16)
-    requires { ⌜ at + 2 ≤ 186 ⌝ }
-    ensures { λ r. ⌜ now (places .exit) ≡ set (set (now (places .entry)) at (n / 256)) (at + 1) (n % 256) ⌝ }
+// Numbers filled from bytes, two bytes each, a sample's three at a time.
+fn put_numbers(numbers: &mut [i16], bytes: &[u8])
+    requires { ⌜ (length (now numbers) % 3 ≡ 0) × (length (now bytes) ≡ 2 * length (now numbers)) ⌝ }
+    ensures { λ _. ⌜ now (numbers .exit) ≡ numbersIn (length (now (numbers .entry))) (now (bytes .entry)) ⌝ }
 {
-    places[at] = (n / 256) as u8;
-    places[at + 1] = (n % 256) as u8;
+    let mut i = 0;
+    while i < numbers.len() {
+        let at = 2 * i;
+        numbers[i] = signed_at(bytes, at);
+        numbers[i + 1] = signed_at(bytes, at + 2);
+        numbers[i + 2] = signed_at(bytes, at + 4);
+        i += 3;
+    }
 }
 
-// A sample put in a place: a, b, c.
+// The samples of the thirty-one places from one place round, a, b and c of each in turn: where all are filled, the oldest first.
+pub(crate) fn window_from(places: &[u8], place: u8) -> [i16; 93]
+    requires { ⌜ (length (now places) ≡ 186) × (place ≤ 30) ⌝ }
+    ensures { λ r. ⌜ lentSamples 31 r ≡ oldestFirst place (samplesOf 31 (now (places .entry))) ⌝ }
+{
+    let at = 6 * place as usize;
+    let split = 93 - 3 * place as usize;
+    let mut window = [0i16; 93];
+    put_numbers(&mut window[0..split], &places[at..186]);
+    put_numbers(&mut window[split..93], &places[0..at]);
+    window
+}
+
+// A sample put in a place.
 pub(crate) fn put_sample(places: &mut [u8; 186], place: u8, s: Sample)
     requires { ⌜ place ≤ 30 ⌝ }
     requires { ⌜ length (now places) ≡ 186 ⌝ }
     ensures { λ r. ⌜ now (places .exit) ≡ withPlace (now (places .entry)) place s ⌝ }
 {
+    let six = place_of(s);
     let at = 6 * place as usize;
-    put_word(places, at, bits(s.a));
-    put_word(places, at + 2, bits(s.b));
-    put_word(places, at + 4, bits(s.c));
+    places[at] = six[0];
+    places[at + 1] = six[1];
+    places[at + 2] = six[2];
+    places[at + 3] = six[3];
+    places[at + 4] = six[4];
+    places[at + 5] = six[5];
 }

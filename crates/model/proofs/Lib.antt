@@ -12,4 +12,3 @@ pub mod NoPhase
 pub mod Turns
 pub mod Marks
 pub mod Windows
-pub mod Copying

@@ -44,11 +44,11 @@ module _ (x y : ℕ → Sample) where
         let f : m % 15 ≡ n % 15 = turned-same m n i k (j + 1) (omega arith) (omega arith) e in
         ap (λ (z : ℤ). pos (weight (offset j)) *ℤ z) (ap (λ (s : Sample). phaseSum table s m) (same j h) ∙ phase-sum-same table (y n) m n f)
 
-    pub weighted-same : (table : List ℤ) → weighted table x i ≡ weighted table y k
+    weighted-same : (table : List ℤ) → weighted table x i ≡ weighted table y k
     unfolding weighted
     weighted-same table = sum-ext 29 (term table x i) (term table y k) (term-same table)
 
-    pub positive-same : positive x i ≡ positive y k
+    positive-same : positive x i ≡ positive y k
     unfolding positive
     positive-same = λ t. record { re = weighted-same cosines t; im = negℤ (weighted-same sines t) }
 

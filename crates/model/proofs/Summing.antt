@@ -18,9 +18,9 @@ use Rattle.model.proofs.Same.{phase-sum-same}
 use Rattle.model.proofs.Weights.{weights, weights-all, weights-more, weights-within, weight-within, sum-more}
 use Rattle.model.proofs.Windows.{term-at}
 
-module _ (table : List ℤ) (samples : List Sample) (n : ℕ) where
+module _ (table : List ℤ) (window : List Sample) (n from : ℕ) where
   abbrev f : ℕ → ℤ
-  f = term table (windowed samples n) (n + 14)
+  f = term table (windowed window n) (n + from + 14)
 
   -- what the local holds after j terms
   pub record Holds (held j : ℕ) : Type 0 where
@@ -35,9 +35,9 @@ module _ (table : List ℤ) (samples : List Sample) (n : ℕ) where
   abbrev pub More : ℕ → ℕ → ℤ → Type 0
   More held j x = let z = toZ w64 held +ℤ toZ w64 (ofZ w64 x) in SFits w64 z × Holds (ofZ w64 z) (j + 1)
 
-  -- it does where x is the term of the sample at place j, which meets entry m
-  module _ (held j m : ℕ) (x : ℤ) (h : Holds held j) (inside : j < 29) (e : m ≡ (n + j) % 15)
-      (x-is : x ≡ pos (weight (offset j)) *ℤ phaseSum table (getD samples j noSample) m) (x-small : natAbs x ≤ weight (offset j) * 1610612736) where
+  -- it does where x is the term of the sample at place from + j, which meets entry m
+  module _ (held j m : ℕ) (x : ℤ) (h : Holds held j) (inside : j < 29) (e : m ≡ (n + from + j) % 15)
+      (x-is : x ≡ pos (weight (offset j)) *ℤ phaseSum table (getD window (from + j) noSample) m) (x-small : natAbs x ≤ weight (offset j) * 1610612736) where
     abbrev before : Exp w64
     before = local held (sum j f) 700616540160 (h .is) (omega (arith, h .small, weights-within j))
 
@@ -46,8 +46,8 @@ module _ (table : List ℤ) (samples : List Sample) (n : ℕ) where
 
     term-is : x ≡ f j
     term-is =
-        let g : m % 15 ≡ (n + j) % 15 = omega arith in
-        x-is ∙ ap (λ (z : ℤ). pos (weight (offset j)) *ℤ z) (phase-sum-same table (getD samples j noSample) m (n + j) g) ∙ sym (term-at table samples n j)
+        let g : m % 15 ≡ (n + from + j) % 15 = omega arith in
+        x-is ∙ ap (λ (z : ℤ). pos (weight (offset j)) *ℤ z) (phase-sum-same table (getD window (from + j) noSample) m (n + from + j) g) ∙ sym (term-at table window n from j)
 
     grown : natAbs (sum j f +ℤ f j) ≤ weights (j + 1) * 1610612736
     grown =
@@ -68,7 +68,7 @@ module _ (table : List ℤ) (samples : List Sample) (n : ℕ) where
     abbrev all : Exp w64
     all = local held (sum j f) 362387865600 (h .is) (omega (arith, h .small, ap weights e ∙ weights-all))
 
-    pub all-is : toZ w64 held ≡ weighted table (windowed samples n) (n + 14)
+    pub all-is : toZ w64 held ≡ weighted table (windowed window n) (n + from + 14)
     unfolding weighted
     all-is = at all tt ∙ ap (λ (k : ℕ). sum k f) e
 

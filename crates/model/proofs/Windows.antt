@@ -1,50 +1,96 @@
--- A window's samples are those of its places, whatever the index of its first; so a part of it has the window's own positive sequence, and whole
+-- A window's numbers as samples, and its samples under their indices: they are those of its places, whatever the index of the first, so that whole
 -- turns of the index change nothing. Assumes nothing.
 use mathlib.Core.Path.{_≡_, refl, sym, _∙_, ap}
 use mathlib.Core.List.{List}
-use Prim.Native.Nat.{ℕ, _+_, _-_, _%_, _<_}
+use Prim.Native.Nat.{ℕ, zero, suc, _+_, _-_, _*_, _%_, _<_}
+use native.Mathlib.Nat.{ne-of-lt}
 use native.Mathlib.Omega.{arith}
 use lib.IntN.{ℤ, pos, _*ℤ_}
-use lib.ListN.{getD, take, drop}
-use lib.Seq.{getD-take, getD-drop}
-use Rattle.model.specs.Filter.{weight, offset, phaseSum, term, weighted, positive, windowed, noSample}
+use lib.ListN.{length, getD, drop, set, length-set}
+use lib.Seq.{getD-drop, getD-set-same, getD-set-other}
+use Rattle.model.specs.Filter.{weight, offset, phaseSum, term, windowed, noSample, lentSamples}
 use Rattle.model.specs.Report.{figuresAt}
 use Rattle.model.specs.declared.filter.Sample.{Sample}
 use Rattle.model.specs.declared.report.Scale.{Scale}
 use Rattle.sampling.specs.declared.Nominal.{Nominal}
-use Rattle.model.proofs.Same.{weighted-same, positive-same, figures-same}
+use Rattle.model.proofs.Same.{figures-same}
+
+-- ---- the numbers as samples
+
+-- the sample in three numbers, from number `at` on
+abbrev pub three-at : List ℤ → ℕ → Sample
+three-at w at = record { a = getD w at (pos 0); b = getD w (at + 1) (pos 0); c = getD w (at + 2) (pos 0) }
+
+-- sample i is the three numbers from number 3i on
+pub sample-in : (n : ℕ) (w : List ℤ) (i : ℕ) → i < n → getD (lentSamples n w) i noSample ≡ three-at w (3 * i)
+unfolding lentSamples
+sample-in zero w i h = absurd (omega arith)
+sample-in (suc n) w zero h = refl
+sample-in (suc n) w (suc i) h =
+    sample-in n (drop 3 w) i (omega arith)
+    ∙ λ t. record { a = past (3 * i) (3 * suc i) (omega arith) t; b = past (3 * i + 1) (3 * suc i + 1) (omega arith) t; c = past (3 * i + 2) (3 * suc i + 2) (omega arith) t }
+  where
+    -- a number past the first three
+    past : (k m : ℕ) → 3 + k ≡ m → getD (drop 3 w) k (pos 0) ≡ getD w m (pos 0)
+    past k m e = getD-drop 3 w k (pos 0) ∙ ap (λ (j : ℕ). getD w j (pos 0)) e
+
+pub samples-length : (n : ℕ) (w : List ℤ) → length (lentSamples n w) ≡ n
+unfolding lentSamples
+samples-length zero w = refl
+samples-length (suc n) w = ap suc (samples-length n (drop 3 w))
+
+-- ---- three numbers put one after the other
+module _ (w : List ℤ) (at : ℕ) (x y z : ℤ) where
+  abbrev pub three-put : List ℤ
+  three-put = set (set (set w at x) (at + 1) y) (at + 2) z
+
+  pub three-length : length three-put ≡ length w
+  three-length = simp length-set
+
+  -- a number before them is as it was
+  pub three-before : (k : ℕ) → k < at → getD three-put k (pos 0) ≡ getD w k (pos 0)
+  three-before k h =
+      getD-set-other (set (set w at x) (at + 1) y) (at + 2) k z (pos 0) (ne-of-lt (omega arith))
+      ∙ getD-set-other (set w at x) (at + 1) k y (pos 0) (ne-of-lt (omega arith))
+      ∙ getD-set-other w at k x (pos 0) (ne-of-lt h)
+
+  pub three-kept : (k : ℕ) → k + 2 < at → three-at three-put k ≡ three-at w k
+  three-kept k h = λ i. record { a = three-before k (omega arith) i; b = three-before (k + 1) (omega arith) i; c = three-before (k + 2) h i }
+
+  -- they are read where they are put
+  pub three-there : at + 2 < length w → three-at three-put at ≡ record { a = x; b = y; c = z }
+  three-there h = λ i. record { a = first i; b = second i; c = third i }
+    where
+      first : getD three-put at (pos 0) ≡ x
+      first =
+          getD-set-other (set (set w at x) (at + 1) y) (at + 2) at z (pos 0) (ne-of-lt (omega arith))
+          ∙ getD-set-other (set w at x) (at + 1) at y (pos 0) (ne-of-lt (omega arith))
+          ∙ getD-set-same w at x (pos 0) (omega arith)
+
+      second : getD three-put (at + 1) (pos 0) ≡ y
+      second =
+          getD-set-other (set (set w at x) (at + 1) y) (at + 2) (at + 1) z (pos 0) (ne-of-lt (omega arith))
+          ∙ getD-set-same (set w at x) (at + 1) y (pos 0) (omega (arith, length-set w at x))
+
+      third : getD three-put (at + 2) (pos 0) ≡ z
+      third = getD-set-same (set (set w at x) (at + 1) y) (at + 2) z (pos 0) (omega (arith, length-set w at x, length-set (set w at x) (at + 1) y))
+
+-- ---- the samples under their indices
 
 -- d before the centre, j on: the sample at place j
-pub at-place : (window : List Sample) (n d j : ℕ) → windowed window n (n + d + j - d) ≡ getD window j noSample
+at-place : (window : List Sample) (n d j : ℕ) → windowed window n (n + d + j - d) ≡ getD window j noSample
 at-place window n d j =
     let e : n + d + j - d - n ≡ j = omega arith in
     ap (λ (k : ℕ). getD window k noSample) e
 
--- one term of the sum over 29 samples, the first of which has index n
-pub term-at : (table : List ℤ) (samples : List Sample) (n j : ℕ)
-    → term table (windowed samples n) (n + 14) j ≡ pos (weight (offset j)) *ℤ phaseSum table (getD samples j noSample) (n + j)
+-- one term of the sum over the 29 samples from a place on, where the window's first has index n
+pub term-at : (table : List ℤ) (window : List Sample) (n from j : ℕ)
+    → term table (windowed window n) (n + from + 14) j ≡ pos (weight (offset j)) *ℤ phaseSum table (getD window (from + j) noSample) (n + from + j)
 unfolding term
-term-at table samples n j =
-    let e : n + 14 + j - 14 ≡ n + j = omega arith in
-    λ t. pos (weight (offset j)) *ℤ phaseSum table (at-place samples n 14 j t) (e t)
-
--- ---- 29 samples of a window
-abbrev samplesFrom : List Sample → ℕ → List Sample
-samplesFrom window from = take 29 (drop from window)
-
-pub samples-from-positive : (window : List Sample) (n from : ℕ)
-    → positive (windowed (samplesFrom window from) (n + from)) (n + from + 14) ≡ positive (windowed window n) (n + from + 14)
-samples-from-positive window n from =
-    let i = n + from + 14 in
-    positive-same (windowed (samplesFrom window from) (n + from)) (windowed window n) i i (omega arith) (omega arith) refl same
-  where
-    same : (j : ℕ) → j < 29 → windowed (samplesFrom window from) (n + from) (n + from + 14 + j - 14) ≡ windowed window n (n + from + 14 + j - 14)
-    same j h =
-        let e : n + from + 14 + j - 14 - n ≡ from + j = omega arith in
-        at-place (samplesFrom window from) (n + from) 14 j
-        ∙ getD-take 29 (drop from window) j noSample h
-        ∙ getD-drop from window j noSample
-        ∙ ap (λ (k : ℕ). getD window k noSample) (sym e)
+term-at table window n from j =
+    let e : n + from + 14 + j - 14 ≡ n + from + j = omega arith in
+    let f : n + from + 14 + j - 14 - n ≡ from + j = omega arith in
+    λ t. pos (weight (offset j)) *ℤ phaseSum table (getD window (f t) noSample) (e t)
 
 -- ---- whole turns of the first sample's index
 module _ (window : List Sample) (index : ℕ) where
@@ -56,10 +102,6 @@ module _ (window : List Sample) (index : ℕ) where
 
   same-place : (d j : ℕ) → windowed window rest (rest + d + j - d) ≡ windowed window index (index + d + j - d)
   same-place d j = at-place window rest d j ∙ sym (at-place window index d j)
-
-  pub weighted-turn : (table : List ℤ) → weighted table (windowed window rest) (rest + 14) ≡ weighted table (windowed window index) (index + 14)
-  weighted-turn =
-      weighted-same (windowed window rest) (windowed window index) (rest + 14) (index + 14) (omega arith) (omega arith) (turn 14) (λ j h. same-place 14 j)
 
   pub figures-turn : (scale : Scale) (nominal : Nominal)
       → figuresAt scale nominal (windowed window rest) (rest + 15) ≡ figuresAt scale nominal (windowed window index) (index + 15)

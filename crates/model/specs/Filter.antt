@@ -1,6 +1,6 @@
 -- Document 01, "The filter" (Annex C, order N = 28).
 use mathlib.Core.List.{List, [], _∷_, _++_, map, reverse}
-use Prim.Native.Nat.{ℕ, _+_, _-_, _%_}
+use Prim.Native.Nat.{ℕ, zero, suc, _+_, _-_, _%_}
 use lib.ListN.{getD, drop}
 use lib.IntN.{ℤ, pos, negℤ, natAbs, _+ℤ_, _-ℤ_, _*ℤ_}
 use Rattle.ints.specs.Whole.{sum}
@@ -57,3 +57,8 @@ noSample = record { a = pos 0; b = pos 0; c = pos 0 }
 -- a window's samples under their indices, where the first one's index is `first`; no rule asks for an index outside the window
 abbrev pub windowed : List Sample → ℕ → ℕ → Sample
 windowed window first n = getD window (n - first) noSample
+
+-- the first n samples of a lent window, in which a, b and c of each stand in turn
+unfoldable pub lentSamples : ℕ → List ℤ → List Sample
+lentSamples zero w = []
+lentSamples (suc n) w = record { a = getD w 0 (pos 0); b = getD w 1 (pos 0); c = getD w 2 (pos 0) } ∷ lentSamples n (drop 3 w)

@@ -2,7 +2,8 @@
 ghost use mathlib.Core.Path.{_≡_};
 ghost use Prim.Native.Nat.{_+_, _*_, _%_, _≤_, _<_};
 ghost use lib.IntN.{pos, natAbs, _*ℤ_};
-ghost use Rattle.model.specs.Filter.{weight, offset, entryAt, phaseSum, weighted, positive, windowed};
+ghost use lib.ListN.{getD};
+ghost use Rattle.model.specs.Filter.{weight, offset, entryAt, phaseSum, weighted, positive, noSample, windowed, lentSamples};
 ghost use Rattle.model.specs.Bounds.{Tabled, Sized, Small};
 
 // One sample of the three phases.
@@ -25,7 +26,7 @@ struct Sums {
 }
 
 // round(16384 × cos of 2πn/15)
-const COS: [i64; 15] = [
+const COS: [i32; 15] = [
     16384,
     14968,
     10963,
@@ -44,7 +45,7 @@ const COS: [i64; 15] = [
 ];
 
 // round(16384 × sin of 2πn/15)
-const SIN: [i64; 15] = [
+const SIN: [i32; 15] = [
     0,
     6664,
     12176,
@@ -61,6 +62,18 @@ const SIN: [i64; 15] = [
     -12176,
     -6664,
 ];
+
+// Sample i of a window, in which a, b and c of each of 31 samples stand in turn.
+fn sample_in(window: &[i16; 93], i: usize) -> Sample
+    requires { ⌜ i < 31 ⌝ }
+    ensures { λ r. ⌜ r ≡ getD (lentSamples 31 (now (window .entry))) i noSample ⌝ }
+{
+    let at = 3 * i;
+    let a = window[at];
+    let b = window[at + 1];
+    let c = window[at + 2];
+    Sample { a, b, c }
+}
 
 // The weight of term j, which is at offset k = j - 14: 15 - |k|.
 fn weight_of(j: usize) -> usize
@@ -95,19 +108,19 @@ fn ten_on(n: usize) -> usize
 }
 
 // One phase of a sample times entry n of a table.
-fn times_entry(x: i16, table: &[i64; 15], n: usize) -> i64
+fn times_entry(x: i16, table: &[i32; 15], n: usize) -> i32
     requires { ⌜ n < 15 ⌝ }
     requires { ⌜ Tabled (now table) ⌝ }
     ensures is { λ r. ⌜ r ≡ x *ℤ entryAt (now (table .entry)) n ⌝ }
     ensures small { λ r. ⌜ natAbs r ≤ 536870912 ⌝ }
 {
-    let z = x as i64;
+    let z = x as i32;
     let e = table[n];
     z * e
 }
 
 // a·cos n + b·cos(n-5) + c·cos(n-10) of a sample, or the same with sin: five entries are 120 degrees.
-fn phase_sum(s: Sample, table: &[i64; 15], n: usize) -> i64
+fn phase_sum(s: Sample, table: &[i32; 15], n: usize) -> i32
     requires { ⌜ n < 15 ⌝ }
     requires { ⌜ Tabled (now table) ⌝ }
     ensures is { λ r. ⌜ r ≡ phaseSum (now (table .entry)) s n ⌝ }
@@ -121,7 +134,7 @@ fn phase_sum(s: Sample, table: &[i64; 15], n: usize) -> i64
 }
 
 // Term j of a sum: the weight times the phase sum of its sample, whose index is n mod 15.
-fn term_of(s: Sample, table: &[i64; 15], n: usize, j: usize) -> i64
+fn term_of(s: Sample, table: &[i32; 15], n: usize, j: usize) -> i64
     requires { ⌜ n < 15 ⌝ }
     requires { ⌜ j < 29 ⌝ }
     requires { ⌜ Tabled (now table) ⌝ }
@@ -129,24 +142,30 @@ fn term_of(s: Sample, table: &[i64; 15], n: usize, j: usize) -> i64
     ensures small { λ r. ⌜ natAbs r ≤ weight (offset j) * 1610612736 ⌝ }
 {
     let g = weight_of(j) as i64;
-    let x = phase_sum(s, table, n);
+    let x = phase_sum(s, table, n) as i64;
     g * x
 }
 
-// The weighted sums over 29 samples, the first of which has index n mod 15.
-fn weighted_sums(samples: [Sample; 29], cosines: &[i64; 15], sines: &[i64; 15], n: usize) -> Sums
-    requires { ⌜ n < 15 ⌝ }
+// The weighted sums at the centre of the 29 samples of a window from a place on, where n is the index of the window's first sample mod 15.
+fn weighted_sums(
+    window: &[i16; 93],
+    n: usize,
+    from: usize,
+    cosines: &[i32; 15],
+    sines: &[i32; 15],
+) -> Sums
+    requires { ⌜ (n < 15) × (from ≤ 2) ⌝ }
     requires { ⌜ Tabled (now cosines) × Tabled (now sines) ⌝ }
-    ensures cosine { λ r. ⌜ r .cosine ≡ weighted (now (cosines .entry)) (windowed samples n) (n + 14) ⌝ }
-    ensures sine { λ r. ⌜ r .sine ≡ weighted (now (sines .entry)) (windowed samples n) (n + 14) ⌝ }
+    ensures cosine { λ r. ⌜ r .cosine ≡ weighted (now (cosines .entry)) (windowed (lentSamples 31 (now (window .entry))) n) (n + from + 14) ⌝ }
+    ensures sine { λ r. ⌜ r .sine ≡ weighted (now (sines .entry)) (windowed (lentSamples 31 (now (window .entry))) n) (n + from + 14) ⌝ }
     ensures small { λ r. ⌜ Sized 362387865600 (r .cosine) (r .sine) ⌝ }
 {
     let mut cosine: i64 = 0;
     let mut sine: i64 = 0;
-    let mut m = n;
+    let mut m = (n + from) % 15;
     let mut j = 0;
     while j < 29 {
-        let s = samples[j];
+        let s = sample_in(window, from + j);
         cosine += term_of(s, cosines, m, j);
         sine += term_of(s, sines, m, j);
         m = one_on(m);
@@ -155,15 +174,15 @@ fn weighted_sums(samples: [Sample; 29], cosines: &[i64; 15], sines: &[i64; 15], 
     Sums { cosine, sine }
 }
 
-// The positive sequence at the centre of 29 samples, the first of which has this index.
-pub(crate) fn positive_sequence(samples: [Sample; 29], index: usize) -> Phasor
-    ensures is { λ r. ⌜ r ≡ positive (windowed samples index) (index + 14) ⌝ }
+// The positive sequence at the centre of the 29 samples of a window from a place on, where n is the index of the window's first sample mod 15.
+pub(crate) fn positive_sequence(window: &[i16; 93], n: usize, from: usize) -> Phasor
+    requires { ⌜ (n < 15) × (from ≤ 2) ⌝ }
+    ensures is { λ r. ⌜ r ≡ positive (windowed (lentSamples 31 (now (window .entry))) n) (n + from + 14) ⌝ }
     ensures small { λ r. ⌜ Small r ⌝ }
 {
-    let n = index % 15;
     let cosines = COS;
     let sines = SIN;
-    let sums = weighted_sums(samples, &cosines, &sines, n);
+    let sums = weighted_sums(window, n, from, &cosines, &sines);
     let im = -sums.sine;
     Phasor {
         re: sums.cosine,

@@ -3,16 +3,14 @@ use crate::angle::Angle;
 use crate::angle::Phase;
 use crate::angle::phase_of;
 use crate::filter::Phasor;
-use crate::filter::Sample;
 use crate::filter::positive_sequence;
 use bits::signed32;
 use sampling::Nominal;
 ghost use mathlib.Core.Path.{_≡_};
 ghost use Prim.Native.Nat.{_+_, _^_, _≤_, _<_};
 ghost use lib.IntN.{natAbs};
-ghost use lib.ListN.{take, drop};
 ghost use Rattle.model.specs.Report.{difference, secondDifference, over, deviationOf, rocofOf, differences, joined, figuresAt, Measuring};
-ghost use Rattle.model.specs.Filter.{positive, windowed};
+ghost use Rattle.model.specs.Filter.{windowed, lentSamples};
 ghost use Rattle.model.specs.Bounds.{Small};
 
 // A report without its tag: whole numbers, and four floats.
@@ -138,37 +136,14 @@ fn join(p: Phasor, d: Differences, nominal: Nominal, scale: Scale) -> Figures
     }
 }
 
-// The 29 samples of a window from a place on.
-fn samples_from(window: [Sample; 31], from: usize) -> [Sample; 29]
-    requires { ⌜ from ≤ 2 ⌝ }
-    ensures { λ r. ⌜ r ≡ take 29 (drop from window) ⌝ }
-{
-    let mut samples = [Sample { a: 0, b: 0, c: 0 }; 29];
-    let mut j = 0;
-    while j < 29 {
-        samples[j] = window[from + j];
-        j += 1;
-    }
-    samples
-}
-
-// The positive sequence at the centre of the 29 samples from a place on, where n is the index of the window's first sample mod 15.
-fn positive_from(window: [Sample; 31], n: usize, from: usize) -> Phasor
-    requires { ⌜ (n < 15) × (from ≤ 2) ⌝ }
-    ensures is { λ r. ⌜ r ≡ positive (windowed window n) (n + from + 14) ⌝ }
-    ensures small { λ r. ⌜ Small r ⌝ }
-{
-    positive_sequence(samples_from(window, from), n + from)
-}
-
 // The figures at the centre of a window, the sixteenth sample, where n is the first one's index mod 15.
-fn measure_by(window: [Sample; 31], n: usize, nominal: Nominal, scale: Scale) -> Figures
+fn measure_by(window: &[i16; 93], n: usize, nominal: Nominal, scale: Scale) -> Figures
     requires { ⌜ n < 15 ⌝ }
-    ensures { λ r. ⌜ r ≡ figuresAt scale nominal (windowed window n) (n + 15) ⌝ }
+    ensures { λ r. ⌜ r ≡ figuresAt scale nominal (windowed (lentSamples 31 (now (window .entry))) n) (n + 15) ⌝ }
 {
-    let before = positive_from(window, n, 0);
-    let centre = positive_from(window, n, 1);
-    let after = positive_from(window, n, 2);
+    let before = positive_sequence(window, n, 0);
+    let centre = positive_sequence(window, n, 1);
+    let after = positive_sequence(window, n, 2);
     let limit = scale.limit;
     let p = phase_of(before, limit);
     let q = phase_of(centre, limit);
@@ -176,9 +151,9 @@ fn measure_by(window: [Sample; 31], n: usize, nominal: Nominal, scale: Scale) ->
     join(centre, differences_of(p, q, r), nominal, scale)
 }
 
-// The figures at the centre of 31 samples, the first of which has this index.
-pub fn measure(window: [Sample; 31], index: usize, nominal: Nominal) -> Figures
-    ensures { λ r. ⌜ Measuring window index nominal r ⌝ }
+// The figures at the centre of 31 lent samples, of which the first has this index; a, b and c of each stand in turn.
+pub fn measure(window: &[i16; 93], index: usize, nominal: Nominal) -> Figures
+    ensures { λ r. ⌜ Measuring (lentSamples 31 (now (window .entry))) index nominal r ⌝ }
 {
     measure_by(window, index % 15, nominal, THREE_PHASE)
 }

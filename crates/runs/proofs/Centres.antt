@@ -1,29 +1,18 @@
--- What refusals 16 and 17 say of the runs, and the samples of a window. Assumes nothing.
+-- What refusals 16 and 17 say of the runs. Assumes nothing.
 use mathlib.Core.Path.{_≡_, refl, sym, _∙_, ap, subst}
 use mathlib.Core.Bool.{Bool, true, false, not, _||_, or-true}
-use mathlib.Core.List.{List, [], _∷_, _++_}
-use Prim.Native.Nat.{ℕ, _+_, _-_, _≤_, _<_}
+use mathlib.Core.List.{List}
+use Prim.Native.Nat.{ℕ, _+_, _-_, _≤_}
 use native.Mathlib.Omega.{arith}
 use borrow.Author.Tests.{lt-ltb, ltb-false, eqb-true, not-false}
 use lib.Dec.{T, eqb, ltb}
 use lib.IntN.{ℤ}
-use lib.ListN.{length, take, set}
-use lib.Seq.{take-suc-set}
-use native.Mathlib.Numerals.{add-one}
-use Rattle.model.specs.declared.filter.Sample.{Sample}
+use lib.ListN.{length}
 use Rattle.runs.specs.Runs.{differ, noCentre}
-use Rattle.runs.specs.Inside.{samplesFrom}
 
 -- beyond the end no sample is after it
 pub none-after : (n centre : ℕ) → n ≤ centre → true ≡ ltb centre 15 || ltb (n - (centre + 1)) 15
 none-after n centre h = sym (ap (λ (t : Bool). ltb centre 15 || t) (lt-ltb (n - (centre + 1)) 15 (omega arith)) ∙ or-true (ltb centre 15))
-
--- one place more of a window holds its sample
-pub one-more : (x : ℕ → Sample) (first j : ℕ) (window : List Sample) (s : Sample) → length window ≡ 31 → j < 31 → s ≡ x (first + j) → take j window ≡ samplesFrom x first j → take (j + 1) (set window j s) ≡ samplesFrom x first (j + 1)
-unfolding samplesFrom
-one-more x first j window s l h e p =
-    ap (λ (n : ℕ). take n (set window j s)) (add-one j) ∙ take-suc-set window j s (omega arith)
-    ∙ (λ i. p i ++ (e i ∷ [])) ∙ ap (samplesFrom x first) (sym (add-one j))
 
 or-false : (p q : Bool) → (p || q) ≡ false → (p ≡ false) × (q ≡ false)
 or-false true q e = absurd (subst T e tt)

@@ -1,9 +1,9 @@
 // The same measurement over three whole lent runs: document 01, "The report", last paragraph.
 use model::Figures;
-use model::Sample;
 ghost use mathlib.Core.Path.{_≡_};
 ghost use Prim.Native.Nat.{_+_, _≤_};
 ghost use lib.ListN.{length};
+ghost use Rattle.model.specs.Filter.{lentSamples};
 ghost use Rattle.runs.specs.Runs.{sampleAt, differ, noCentre, RunMeasuring};
 ghost use Rattle.runs.specs.Inside.{samplesFrom};
 
@@ -31,19 +31,19 @@ fn is_off_centre(a: &[i16], centre: usize) -> bool
     (centre < 15) | (n - centre - 1 < 15)
 }
 
-// The 31 samples of three runs from a place on.
-fn window_from(a: &[i16], b: &[i16], c: &[i16], first: usize) -> [Sample; 31]
+// The 31 samples of three runs from a place on, a, b and c of each in turn.
+fn window_from(a: &[i16], b: &[i16], c: &[i16], first: usize) -> [i16; 93]
     requires { ⌜ (first + 31 ≤ length (now a)) × (first + 31 ≤ length (now b)) × (first + 31 ≤ length (now c)) ⌝ }
-    ensures { λ r. ⌜ r ≡ samplesFrom (sampleAt (now (a .entry)) (now (b .entry)) (now (c .entry))) first 31 ⌝ }
+    ensures { λ r. ⌜ lentSamples 31 r ≡ samplesFrom (sampleAt (now (a .entry)) (now (b .entry)) (now (c .entry))) first 31 ⌝ }
 {
-    let mut window = [Sample { a: 0, b: 0, c: 0 }; 31];
+    let mut window = [0i16; 93];
     let mut j = 0;
     while j < 31 {
         let i = first + j;
-        let x = a[i];
-        let y = b[i];
-        let z = c[i];
-        window[j] = Sample { a: x, b: y, c: z };
+        let at = 3 * j;
+        window[at] = a[i];
+        window[at + 1] = b[i];
+        window[at + 2] = c[i];
         j += 1;
     }
     window
@@ -68,5 +68,5 @@ pub fn measure(a: &[i16], b: &[i16], c: &[i16], centre: usize, nominal: u8) -> M
     let first = centre - 15;
     let window = window_from(a, b, c, first);
     let frequency = sampling::nominal_of(nominal);
-    Measured::Given(model::measure(window, first, frequency))
+    Measured::Given(model::measure(&window, first, frequency))
 }

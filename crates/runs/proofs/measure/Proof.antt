@@ -77,12 +77,12 @@ measure-requires c κs = search needs
 
 returns-4 : tie.Need-returns-4
 returns-4 c =
-    let d = c .before .before .before in
+    let d = c .before .before .before .before in
     let s = flags d in
     let first = start s .args .centre - 15 in
     ap saidFigures (
     c .measure .ensures
-    ∙ (λ i. figuresAt threePhase (c .before .nominal-of .ensures i) (windowed (c .before .before .window-from .ensures i) first) (first + 15))
+    ∙ (λ i. figuresAt threePhase (c .before .before .nominal-of .ensures i) (windowed (c .before .before .before .window-from .ensures i) first) (first + 15))
     ∙ window-figures (nominalOf (start s .args .nominal)) (samples s) (start s .args .centre) (within d .0)
     )
     ∙ (simp (d .before .before .if1 .left, d .before .if2 .left, d .if3 .left) at (ordered s))

@@ -7,7 +7,7 @@ use mir.Syntax.{w32, w64}
 use mir.Val.{SFits}
 use mir.Facts.{toZ-ofZ}
 use Rattle.sampling.specs.declared.Nominal.{Nominal}
-use Rattle.model.specs.Filter.{windowed}
+use Rattle.model.specs.Filter.{windowed, lentSamples}
 use Rattle.model.specs.Report.{figuresAt, threePhase}
 use Rattle.sampling.specs.Tags.{nominalOf}
 use Rattle.sampling.specs.Sampling.{samplingOf}
@@ -56,10 +56,11 @@ returns c =
     let start = c .before .before .before .before .before .before .before in
     let m = c .before .measure in
     let h = start .args .self in
-    let figures : m .result ≡ figuresAt threePhase (nominalOf (h .nominal)) (windowed (start .args .window) (nextNumberOf h - 30)) (centreNumber h) =
+    let w = lentSamples 31 (start .args .window .now) in
+    let figures : m .result ≡ figuresAt threePhase (nominalOf (h .nominal)) (windowed w (nextNumberOf h - 30)) (centreNumber h) =
     m .ensures
-    ∙ ap (λ (n : Nominal). figuresAt threePhase n (windowed (start .args .window) (h .index)) (h .index + 15)) (c .before .before .nominal-of .ensures)
-    ∙ by-newest (nominalOf (h .nominal)) (start .args .window) h (sound h (start .pre .0)) (start .pre .1) in
+    ∙ ap (λ (n : Nominal). figuresAt threePhase n (windowed w (h .index)) (h .index + 15)) (c .before .before .nominal-of .ensures)
+    ∙ by-newest (nominalOf (h .nominal)) w h (sound h (start .pre .0)) (start .pre .1) in
     let re : SFits w64 (m .result .re) = search needs in
     let im : SFits w64 (m .result .im) = search needs in
     let d1 : SFits w32 (m .result .d1) = search needs in

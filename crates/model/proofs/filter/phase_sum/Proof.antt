@@ -4,7 +4,7 @@ use Prim.Native.Nat.{ℕ, _+_, _%_}
 use native.Mathlib.Omega.{arith}
 use lib.IntN.{ℤ, pos, _+ℤ_, _*ℤ_}
 use lib.ListN.{getD}
-use mir.Syntax.{w16, w64}
+use mir.Syntax.{w16, w32}
 use mir.Val.{SFits, toZ, ofZ}
 use mir.Facts.{toZ-ofZ}
 use Rattle.ints.proofs.Signed.{Exp, whole, _⊕_, at, fits, sized}
@@ -42,10 +42,10 @@ module _ (c : tie.After-times-entry3) where
   abbrev c-product : ℤ
   c-product = c .times-entry3 .result
 
-  abbrev two : Exp w64
+  abbrev two : Exp w32
   two = whole a-product 536870912 (c .before .before .before .before .before .before .times-entry .ensures .1) ⊕ whole b-product 536870912 (c .before .before .before .times-entry2 .ensures .1)
 
-  abbrev all : Exp w64
+  abbrev all : Exp w32
   all = two ⊕ whole c-product 536870912 (c .times-entry3 .ensures .1)
 
   -- a product of what is read is one of the phase, and places that are the same mod 15 have the same entry

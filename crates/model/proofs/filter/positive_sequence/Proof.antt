@@ -1,17 +1,16 @@
--- `positive_sequence` is re and im: both sums at the index mod 15, which change nothing by whole turns. Assumes nothing.
+-- `positive_sequence` is re and im: both sums, over tables whose entries are small. Assumes nothing.
 use mathlib.Core.Path.{_∙_, ap}
-use native.Mathlib.Omega.{arith}
 use lib.IntN.{negℤ}
 use mir.Syntax.{w64}
 use Rattle.ints.proofs.Signed.{Exp, whole, neg, at, fits, sized}
-use Rattle.model.specs.Filter.{positive, cosines, sines}
+use Rattle.model.specs.Filter.{positive}
 use Rattle.model.proofs.Tables.{cosines-tabled, sines-tabled}
-use Rattle.model.proofs.Windows.{weighted-turn}
+use borrow.Author.Needs.{needs}
 use Rattle.model.proofs.filter.positive_sequence.Statement.{statement}
 use Rattle.model.proofs.filter.positive_sequence.Tie as tie
 
 weighted-sums-requires : tie.Need-weighted-sums-requires
-weighted-sums-requires c κs = (omega arith, (cosines-tabled, sines-tabled))
+weighted-sums-requires c κs = (search needs, (cosines-tabled, sines-tabled))
 
 module _ (c : tie.After-weighted-sums) where
   abbrev re : Exp w64
@@ -27,9 +26,8 @@ returns : tie.Need-returns
 unfolding positive
 returns c =
     let b = c .before .before .before in
-    let a = b .before .before .before .args in
-    let re-is = b .weighted-sums .ensures .0 ∙ weighted-turn (a .samples) (a .index) cosines in
-    let minus-is = b .weighted-sums .ensures .1 .0 ∙ weighted-turn (a .samples) (a .index) sines in (
+    let re-is = b .weighted-sums .ensures .0 in
+    let minus-is = b .weighted-sums .ensures .1 .0 in (
       (λ i. record { re = (at (re b) tt ∙ re-is) i; im = (at (im b) tt ∙ ap negℤ minus-is) i }),
       record { re-size = sized (re b) tt; im-size = sized (im b) tt },
     )

@@ -3,9 +3,9 @@ use mathlib.Core.Path.{sym, _∙_, ap₂, subst}
 use Prim.Native.Nat.{ℕ, _*_, _≤_}
 use native.Mathlib.Omega.{arith}
 use lib.IntN.{ℤ, pos, natAbs, _*ℤ_}
-use mir.Syntax.{w64}
+use mir.Syntax.{w32, w64}
 use Rattle.ints.proofs.Size.{size-mul-le}
-use Rattle.ints.proofs.Signed.{Exp, count, whole, _⊗_, at, fits}
+use Rattle.ints.proofs.Signed.{Exp, count, cast, _⊗_, at, fits}
 use Rattle.model.specs.Filter.{weight, offset}
 use Rattle.model.proofs.Weights.{weight-within}
 use borrow.Author.Needs.{needs}
@@ -18,14 +18,20 @@ weight-of-requires c κs = search needs
 abbrev g : tie.After-weight-of → Exp w64
 g c = count (c .weight-of .result) 15 (omega (arith, c .weight-of .ensures, weight-within (c .before .args .j)))
 
+abbrev x : tie.After-phase-sum → Exp w64
+x c = cast w32 (c .phase-sum .result) (search needs)
+
 abbrev product : tie.After-phase-sum → Exp w64
-product c = g (c .before) ⊗ whole (c .phase-sum .result) 1610612736 (c .phase-sum .ensures .1)
+product c = g (c .before) ⊗ x c
 
 cast-g : tie.Need-cast-g
 cast-g c = fits (g c) tt
 
 phase-sum-requires : tie.Need-phase-sum-requires
 phase-sum-requires c κs = search needs
+
+cast-x : tie.Need-cast-x
+cast-x c = fits (x c) tt
 
 mul-result : tie.Need-mul-result
 mul-result c = fits (product c) tt
@@ -41,4 +47,4 @@ returns c =
 
 pub term-of-spec : {M : Type 1} → statement M
 term-of-spec =
-    tie.close (tie.spec weight-of-requires cast-g phase-sum-requires mul-result returns)
+    tie.close (tie.spec weight-of-requires cast-g phase-sum-requires cast-x mul-result returns)

@@ -4,17 +4,17 @@ use Prim.Native.Nat.{ℕ, _%_}
 use native.Mathlib.Omega.{arith}
 use lib.IntN.{pos, _*ℤ_}
 use lib.ListN.{getD}
-use mir.Syntax.{w16, w64}
+use mir.Syntax.{w16, w32}
 use Rattle.ints.proofs.Signed.{Exp, whole, cast, _⊗_, at, fits, sized}
 use borrow.Author.Needs.{needs}
 use Rattle.model.proofs.filter.times_entry.Statement.{statement}
 use Rattle.model.proofs.filter.times_entry.Tie as tie
 
 module _ (c : tie.Start) where
-  abbrev z : Exp w64
+  abbrev z : Exp w32
   z = cast w16 (c .args .x) (c .fits .x)
 
-  abbrev product : Exp w64
+  abbrev product : Exp w32
   product = z ⊗ whole (getD (c .args .table .now) (c .args .n) (pos 0)) 16384 (c .pre .1 .small (c .args .n))
 
 cast-z : tie.Need-cast-z

@@ -1,30 +1,37 @@
 -- `weighted_sums` is both sums: after j terms each local holds its sum of the first j, and the entry is that of the next sample. Assumes nothing.
-use mathlib.Core.Path.{_≡_}
-use Prim.Native.Nat.{_+_, _-_, _%_, _≤_}
+use mathlib.Core.Path.{_≡_, _∙_, ap}
+use mathlib.Core.List.{List}
+use Prim.Native.Nat.{ℕ, _+_, _-_, _*_, _%_, _≤_}
 use native.Mathlib.Omega.{arith}
 use lib.Dec.{lit≤}
+use lib.IntN.{ℤ, pos, natAbs, _*ℤ_}
+use Rattle.model.specs.Filter.{weight, offset, phaseSum, lentSamples}
+use Rattle.model.specs.declared.filter.Sample.{Sample}
 use Rattle.model.proofs.Summing.{Holds, holds-none, More, one-more, all-is, all-small}
 use Rattle.model.proofs.filter.weighted_sums.Statement.{statement}
 use Rattle.model.proofs.filter.weighted_sums.Tie as tie
 
 abbrev Inv-loop : tie.InvT-loop
-Inv-loop cosines sines n samples cosine₀ sine₀ m₀ j₀ cosine sine m j =
-    (j ≤ 29) × (m ≡ (n + j) % 15) × Holds cosines samples n cosine j × Holds sines samples n sine j
+Inv-loop window n from cosines sines cosine₀ sine₀ m₀ j₀ cosine sine m j =
+    (j ≤ 29) × (m ≡ (n + from + j) % 15) × Holds cosines (lentSamples 31 window) n from cosine j × Holds sines (lentSamples 31 window) n from sine j
 
 abbrev μ-loop : tie.MeasureT-loop
-μ-loop cosines sines n samples cosine₀ sine₀ m₀ j₀ cosine sine m j = 29 - j
+μ-loop window n from cosines sines cosine₀ sine₀ m₀ j₀ cosine sine m j = 29 - j
+
+add-m : tie.Need-add-m Inv-loop μ-loop
+add-m c = omega arith
 
 loop-holds : tie.Need-loop-holds Inv-loop μ-loop
 loop-holds c =
     let a = c .args in
-    let e : a .n ≡ (a .n + 0) % 15 = omega (arith, c .pre .0) in
-    (lit≤ tt, e, holds-none (a .cosines .now) (a .t1) (a .n), holds-none (a .sines .now) (a .t1) (a .n))
+    let w = lentSamples 31 (a .window .now) in
+    (lit≤ tt, omega arith, holds-none (a .cosines .now) w (a .n) (a .from), holds-none (a .sines .now) w (a .n) (a .from))
 
-mul-s : tie.Need-mul-s Inv-loop μ-loop
-mul-s c = omega arith
+add-sample-in : tie.Need-add-sample-in Inv-loop μ-loop
+add-sample-in c = omega arith
 
-array-copy-out-s : tie.Need-array-copy-out-s Inv-loop μ-loop
-array-copy-out-s c = omega arith
+sample-in-requires : tie.Need-sample-in-requires Inv-loop μ-loop
+sample-in-requires c κs = omega arith
 
 term-of-requires : tie.Need-term-of-requires Inv-loop μ-loop
 term-of-requires c κs = (omega (arith, c .before .before .loop .inv .1), (omega arith, c .before .before .before .pre .1 .0))
@@ -32,22 +39,29 @@ term-of-requires c κs = (omega (arith, c .before .before .loop .inv .1), (omega
 term-of-requires-2 : tie.Need-term-of-requires-2 Inv-loop μ-loop
 term-of-requires-2 c κs = (omega (arith, c .before .before .before .loop .inv .1), (omega arith, c .before .before .before .before .pre .1 .1))
 
--- one term more, with the cosines and with the sines
-cosine-more : (c : tie.After-term-of Inv-loop μ-loop) → let a = c .before .before .before .before .args in let l = c .before .before .before .loop in
-    More (a .cosines .now) (a .t1) (a .n) (l .cosine) (l .j) (c .term-of .result)
-cosine-more c =
-    let a = c .before .before .before .before .args in
-    let l = c .before .before .before .loop in
-    let x = c .term-of in
-    one-more (a .cosines .now) (a .t1) (a .n) (l .cosine) (l .j) (l .m) (x .result) (l .inv .2) (omega arith) (l .inv .1) (x .ensures .0) (x .ensures .1)
+-- one term more of either sum, x, which is the term of the sample that was read
+module _ (c : tie.After-sample-in Inv-loop μ-loop) where
+  abbrev start : tie.Start Inv-loop μ-loop
+  start = c .before .before .before
 
-sine-more : (c : tie.After-term-of2 Inv-loop μ-loop) → let a = c .before .before .before .before .before .args in let l = c .before .before .before .before .loop in
-    More (a .sines .now) (a .t1) (a .n) (l .sine) (l .j) (c .term-of2 .result)
-sine-more c =
-    let a = c .before .before .before .before .before .args in
-    let l = c .before .before .before .before .loop in
-    let x = c .term-of2 in
-    one-more (a .sines .now) (a .t1) (a .n) (l .sine) (l .j) (l .m) (x .result) (l .inv .3) (omega arith) (l .inv .1) (x .ensures .0) (x .ensures .1)
+  abbrev window : List Sample
+  window = lentSamples 31 (start .args .window .now)
+
+  more : (table : List ℤ) (held : ℕ) (x : ℤ) → let l = c .before .before .loop in Holds table window (start .args .n) (start .args .from) held (l .j)
+      → x ≡ pos (weight (offset (l .j))) *ℤ phaseSum table (c .sample-in .result) (l .m) → natAbs x ≤ weight (offset (l .j)) * 1610612736
+      → More table window (start .args .n) (start .args .from) held (l .j) x
+  more table held x h e s =
+      let l = c .before .before .loop in
+      let e′ = e ∙ ap (λ (v : Sample). pos (weight (offset (l .j))) *ℤ phaseSum table v (l .m)) (c .sample-in .ensures) in
+      one-more table window (start .args .n) (start .args .from) held (l .j) (l .m) x h (omega arith) (l .inv .1) e′ s
+
+cosine-more : (c : tie.After-term-of Inv-loop μ-loop) → let l = c .before .before .before .loop in let s = start (c .before) in
+    More (s .args .cosines .now) (window (c .before)) (s .args .n) (s .args .from) (l .cosine) (l .j) (c .term-of .result)
+cosine-more c = more (c .before) _ _ _ (c .before .before .before .loop .inv .2) (c .term-of .ensures .0) (c .term-of .ensures .1)
+
+sine-more : (c : tie.After-term-of2 Inv-loop μ-loop) → let l = c .before .before .before .before .loop in let s = start (c .before .before) in
+    More (s .args .sines .now) (window (c .before .before)) (s .args .n) (s .args .from) (l .sine) (l .j) (c .term-of2 .result)
+sine-more c = more (c .before .before) _ _ _ (c .before .before .before .before .loop .inv .3) (c .term-of2 .ensures .0) (c .term-of2 .ensures .1)
 
 add-cosine : tie.Need-add-cosine Inv-loop μ-loop
 add-cosine c = cosine-more c .0
@@ -72,16 +86,17 @@ loop-again c =
 returns : tie.Need-returns Inv-loop μ-loop
 returns c =
     let a = c .before .before .args in
+    let w = lentSamples 31 (a .window .now) in
     let l = c .before .loop in
     let e : l .j ≡ 29 = omega arith in
     let cosine-holds = l .inv .2 in
     let sine-holds = l .inv .3 in (
-      all-is (a .cosines .now) (a .t1) (a .n) (l .cosine) (l .j) cosine-holds e,
+      all-is (a .cosines .now) w (a .n) (a .from) (l .cosine) (l .j) cosine-holds e,
       (
-        all-is (a .sines .now) (a .t1) (a .n) (l .sine) (l .j) sine-holds e,
+        all-is (a .sines .now) w (a .n) (a .from) (l .sine) (l .j) sine-holds e,
         record {
-          re-size = all-small (a .cosines .now) (a .t1) (a .n) (l .cosine) (l .j) cosine-holds e;
-          im-size = all-small (a .sines .now) (a .t1) (a .n) (l .sine) (l .j) sine-holds e;
+          re-size = all-small (a .cosines .now) w (a .n) (a .from) (l .cosine) (l .j) cosine-holds e;
+          im-size = all-small (a .sines .now) w (a .n) (a .from) (l .sine) (l .j) sine-holds e;
         },
       ),
     )
@@ -92,9 +107,10 @@ weighted-sums-spec =
     (tie.spec
     Inv-loop
     μ-loop
+    add-m
     loop-holds
-    mul-s
-    array-copy-out-s
+    add-sample-in
+    sample-in-requires
     term-of-requires
     add-cosine
     term-of-requires-2
