@@ -5,8 +5,8 @@ use mathlib.Core.List.{List, _++_, append-assoc}
 use Prim.Native.Nat.{ℕ, _*_}
 use native.Mathlib.Omega.{arith}
 use lib.Dec.{ltb}
-use lib.ListN.{length, drop, length-append, length-drop, length-replicate}
-use lib.Seq.{take-at, drop-at, length-take-le}
+use lib.ListN.{length, drop, length-append, length-replicate}
+use lib.Seq.{take-at, drop-at}
 use borrow.Author.Tests.{eqb-false, eq-eqb, ltb-false, not-false}
 use Rattle.feed.specs.declared.Head.{Head}
 use Rattle.feed.specs.declared.Feed.{Feed}
@@ -17,6 +17,7 @@ use Rattle.feed.proofs.Sound.{neither}
 use Rattle.bank.specs.Slot.{stateIn, headIn, headBytes, placesIn, tailIn, tailOf, feedIn, slotOf, freeSlot}
 use Rattle.bank.specs.Damage.{blank, isFree, isOpen, stray, isDamaged}
 use Rattle.bank.proofs.Blank.{zeros-blank}
+use Rattle.bank.proofs.Parts.{places-length}
 use Rattle.bank.proofs.States.{open-damaged}
 
 -- what a slot that is open and not damaged keeps: numbers that are not faulty, whole places, and zeros in those not filled
@@ -109,12 +110,12 @@ module _ (s : List ℕ) (whole : length s ≡ 256) (undamaged : isDamaged s ≡ 
   is-open = eq-eqb (stateIn s) 1 is-one
 
   pub open-kept : Kept (feedIn s)
-  unfolding feedIn stray placesIn
+  unfolding feedIn stray
   open-kept =
       let n = neither (faulty (headIn s)) (stray s) (sym (open-damaged s is-one) ∙ undamaged) in
       let m = neither (not (blank (drop (6 * headIn s .held) (placesIn s)))) (not (blank (tailIn s))) (n .1) in
       record {
         faultless = n .0;
-        whole = length-take-le 186 (drop 11 s) (omega (arith, length-drop 11 s));
+        whole = places-length s whole;
         unfilled = not-false (blank (drop (6 * headIn s .held) (placesIn s))) (m .0);
       }

@@ -2,6 +2,7 @@
 pub mod Unique
 pub mod RoundTrip
 pub mod Slots
+pub mod Parts
 pub mod Sixteen
 pub mod Keeping
 pub mod KeptOn

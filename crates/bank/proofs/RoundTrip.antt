@@ -4,10 +4,11 @@ use mathlib.Core.List.{List, [], _∷_, _++_}
 use Prim.Native.Nat.{ℕ, zero, suc, _+_, _≤_, _<_}
 use native.Mathlib.Omega.{arith}
 use lib.ListN.{length, getD, take, drop, take-append-drop}
-use lib.Seq.{drop-drop, drop-cons}
+use lib.Seq.{drop-cons}
 use Rattle.bits.proofs.Bytes.{bytes-of-word, bytes-of-long}
 use Rattle.feed.specs.Places.{zeros}
-use Rattle.bank.specs.Slot.{stateIn, headIn, headBytes, placesIn, tailIn, tailOf, feedIn, slotOf}
+use Rattle.bank.specs.Slot.{stateIn, headIn, headBytes, tailIn, tailOf, feedIn, slotOf}
+use Rattle.bank.proofs.Parts.{past-head}
 
 -- every element is a byte
 abbrev pub Bytes : List ℕ → Type 0
@@ -34,7 +35,7 @@ module _ (s : List ℕ) (size : length s ≡ 256) (bytes : Bytes s) (one : state
       ∙ sym (spelt 11 0 s (omega arith))
 
   pub slot-back : tailIn s ≡ zeros 59 → slotOf (feedIn s) ≡ s
-  unfolding slotOf feedIn placesIn tailOf tailIn
+  unfolding slotOf feedIn tailOf
   slot-back tail =
-      rw (head-put, ← tail, ← drop-drop 186 11 s, take-append-drop 186 (drop 11 s))
+      rw (head-put, ← tail, ← past-head s)
       (take-append-drop 11 s)

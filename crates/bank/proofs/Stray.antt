@@ -6,7 +6,7 @@ use Prim.Native.Nat.{ℕ, _+_, _-_, _*_}
 use native.Mathlib.Omega.{arith}
 use lib.Dec.{ltb}
 use lib.ListN.{length, take, drop, length-drop, drop-of-length-le}
-use lib.Seq.{drop-drop, length-take-le, take-all}
+use lib.Seq.{drop-drop, take-all}
 use borrow.Author.Tests.{ltb-true, ltb-false, not-false}
 use Rattle.feed.specs.Places.{zeros}
 use Rattle.feed.proofs.Sound.{neither}
@@ -14,15 +14,13 @@ use Rattle.bank.specs.Slot.{headIn, placesIn, tailIn}
 use Rattle.bank.specs.Damage.{blank, stray}
 use Rattle.bank.proofs.Blank.{blank-zeros}
 use Rattle.bank.proofs.Slots.{drop-take}
+use Rattle.bank.proofs.Parts.{places-length}
 
 module _ (s : List ℕ) (size : length s ≡ 256) where
   pub unfilled-scan : (held : ℕ) → take (197 - cond (ltb held 31) (11 + 6 * held) 197) (drop (cond (ltb held 31) (11 + 6 * held) 197) s) ≡ drop (6 * held) (placesIn s)
   unfolding placesIn
   unfilled-scan held = go (ltb held 31) refl
     where
-      places : length (take 186 (drop 11 s)) ≡ 186
-      places = length-take-le 186 (drop 11 s) (simp length-drop (omega arith))
-
       go : (t : Bool) → ltb held 31 ≡ t → take (197 - cond t (11 + 6 * held) 197) (drop (cond t (11 + 6 * held) 197) s) ≡ drop (6 * held) (take 186 (drop 11 s))
       go true p =
           let l = ltb-true held 31 p in
@@ -32,7 +30,7 @@ module _ (s : List ℕ) (size : length s ≡ 256) where
           ∙ drop-take (6 * held) (197 - (11 + 6 * held)) (drop 11 s)
           ∙ ap (λ (r : List ℕ). take (197 - (11 + 6 * held)) r) (drop-drop (6 * held) 11 s)
           )
-      go false p = let l = ltb-false held 31 p in sym (drop-of-length-le (take 186 (drop 11 s)) {i = 6 * held} (omega (arith, places)))
+      go false p = let l = ltb-false held 31 p in sym (drop-of-length-le (take 186 (drop 11 s)) {i = 6 * held} (omega (arith, places-length s size)))
 
   pub tail-scan : take 59 (drop 197 s) ≡ tailIn s
   unfolding tailIn

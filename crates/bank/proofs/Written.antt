@@ -4,8 +4,8 @@ use mathlib.Core.List.{List, _++_, append-assoc}
 use Prim.Native.Nat.{ℕ, _+_, _-_, _*_, _≤_}
 use native.Mathlib.Nat.{add-sub-cancel-left}
 use native.Mathlib.Omega.{arith}
-use lib.ListN.{length, take, drop, length-drop, take-append-drop}
-use lib.Seq.{take-append-le, drop-append-le, take-append-add, drop-append-add, drop-drop, length-take-le}
+use lib.ListN.{length, take, drop, length-drop}
+use lib.Seq.{take-append-le, drop-append-le, take-append-add, drop-append-add, drop-drop}
 use borrow.Rule.Slice.PartMut.{putMid}
 use Rattle.model.specs.declared.filter.Sample.{Sample}
 use Rattle.feed.specs.Places.{zeros, placeOf, withPlace}
@@ -13,6 +13,7 @@ use Rattle.feed.specs.Ring.{stored}
 use Rattle.bank.specs.Slot.{headIn, headBytes, placesIn, tailIn, tailOf, feedIn, slotOf}
 use Rattle.bank.specs.Inside.{withPart}
 use Rattle.bank.proofs.Keeping.{head-length}
+use Rattle.bank.proofs.Parts.{places-length, past-head}
 
 -- six bytes lent from a place on: what comes back stands in their place
 pub six-put : (from : ℕ) (s six : List ℕ) → putMid from (from + 6 - from) s six ≡ withPart from 6 six s
@@ -32,14 +33,6 @@ part-before s last part n k h =
     (simp append-assoc)
 
 module _ (s : List ℕ) (size : length s ≡ 256) where
-  places-length : length (placesIn s) ≡ 186
-  unfolding placesIn
-  places-length = length-take-le 186 (drop 11 s) (simp length-drop (omega arith))
-
-  past-head : drop 11 s ≡ placesIn s ++ tailIn s
-  unfolding placesIn tailIn
-  past-head = sym (ap (λ (t : List ℕ). take 186 (drop 11 s) ++ t) (sym (drop-drop 186 11 s)) ∙ take-append-drop 186 (drop 11 s))
-
   pub stored-slot : (v : Sample) → headIn s .place ≤ 30 → tailIn s ≡ zeros 59
       → withPart (11 + 6 * headIn s .place) 6 (placeOf v) (headBytes (stored (feedIn s) v .head) ++ drop 11 s) ≡ slotOf (stored (feedIn s) v)
   unfolding feedIn stored withPlace tailOf slotOf
@@ -48,4 +41,4 @@ module _ (s : List ℕ) (size : length s ≡ 256) where
       let at : ℕ = 6 * headIn s .place in
       ap (λ (n : ℕ). withPart (n + at) 6 (placeOf v) (headBytes h ++ drop 11 s)) (sym (head-length h))
       ∙ part-past (headBytes h) (drop 11 s) (placeOf v) at 6
-      ∙ rw (past-head, part-before (placesIn s) (tailIn s) (placeOf v) at 6 (omega (arith, places-length)), drop-drop 6 at (placesIn s), tail)
+      ∙ rw (past-head s, part-before (placesIn s) (tailIn s) (placeOf v) at 6 (omega (arith, places-length s size)), drop-drop 6 at (placesIn s), tail)

@@ -88,11 +88,12 @@ loop-again c =
     let z = c .signed-at3 in
     let bytes = a .bytes .now in
     let room : l .i + 3 ≤ length (a .numbers .now) = omega arith in
+    let whole : (l .i + 3) % 3 ≡ 0 = omega arith in
     let second : 2 * l .i + 2 ≡ 2 * (l .i + 1) = omega arith in
     let third : 2 * l .i + 4 ≡ 2 * (l .i + 2) = omega arith in
     let there = three-there (l .numbers) (l .i) _ _ _ (omega (arith, l .inv .2)) in (
       room,
-      omega arith,
+      whole,
       three-length (l .numbers) (l .i) _ _ _ ∙ l .inv .2,
       three-more (λ (k : ℕ). getD (three-put (l .numbers) (l .i) _ _ _) k (pos 0) ≡ word-at bytes (2 * k)) (l .i)
           (λ k h. three-before (l .numbers) (l .i) _ _ _ k h ∙ l .inv .3 k h)

@@ -8,7 +8,7 @@ use Rattle.ints.proofs.Size.{size-mul-le}
 use Rattle.ints.proofs.Signed.{Exp, count, cast, _⊗_, at, fits}
 use Rattle.model.specs.Filter.{weight, offset}
 use Rattle.model.proofs.Weights.{weight-within}
-use borrow.Author.Needs.{needs}
+use borrow.Author.Needs.{sfits-of, needs}
 use Rattle.model.proofs.filter.term_of.Statement.{statement}
 use Rattle.model.proofs.filter.term_of.Tie as tie
 
@@ -19,7 +19,7 @@ abbrev g : tie.After-weight-of → Exp w64
 g c = count (c .weight-of .result) 15 (omega (arith, c .weight-of .ensures, weight-within (c .before .args .j)))
 
 abbrev x : tie.After-phase-sum → Exp w64
-x c = cast w32 (c .phase-sum .result) (search needs)
+x c = cast w32 (c .phase-sum .result) (sfits-of (c .phase-sum .ok))
 
 abbrev product : tie.After-phase-sum → Exp w64
 product c = g (c .before) ⊗ x c
