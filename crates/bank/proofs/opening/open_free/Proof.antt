@@ -12,27 +12,17 @@ use Rattle.bank.proofs.Lent.{pass, stop, unaltered}
 use borrow.Author.Needs.{needs}
 use Rattle.bank.proofs.opening.open_free.Statement.{statement}
 use Rattle.bank.proofs.opening.open_free.Tie as tie
-use Rattle.bank.proofs.opening.open_free.Reads as reads
-use Rattle.bank.proofs.opening.open_free.Lts as lts
-use Rattle.bank.proofs.slot.put_head.Reads as put-head-reads
-use Rattle.feed.proofs.Feed.open.Reads as open-reads
-use Rattle.sampling.proofs.served_nominal.Reads as served-nominal-reads
-use Rattle.sampling.proofs.served_rate.Reads as served-rate-reads
 
--- src/opening.rt:31:9
 served-nominal-requires : tie.Need-served-nominal-requires
 served-nominal-requires c κs = search needs
 
--- src/opening.rt:32:9
 returns : tie.Need-returns
 returns c = λ bank slot l.
     unaltered l _ ∙ sym (at-free l (c .before .before .before .pre) _ _ _ ∙ stop _ _ (ap not (sym (c .before .served-nominal .ensures)) ∙ c .if1 .taken))
 
--- src/opening.rt:34:10
 served-rate-requires : tie.Need-served-rate-requires
 served-rate-requires c κs = search needs
 
--- src/opening.rt:35:9
 returns-2 : tie.Need-returns-2
 returns-2 c = λ bank slot l.
     unaltered l _
@@ -42,19 +32,15 @@ returns-2 c = λ bank slot l.
     ∙ stop _ _ (ap (λ (t : Bool). not (t || eqb (c .before .before .before .before .before .args .rate) 0)) (sym (c .before .served-rate .ensures)) ∙ c .if2 .taken)
     )
 
--- src/opening.rt:37:9
 open-requires : tie.Need-open-requires
 open-requires c κs = search needs
 
--- src/opening.rt:38:5
 put-head-requires : tie.Need-put-head-requires
 put-head-requires c κs = ap length (c .before .before .before .before .before .before .before .pre) ∙ free-whole
 
--- src/opening.rt:27:1
 same-length : tie.Need-same-length
 same-length c = search needs
 
--- src/opening.rt:27:1
 returns-3 : tie.Need-returns-3
 returns-3 c = λ bank slot l.
     let a = c .before .before .before .before .before .before .before .before .before .before .args in

@@ -8,34 +8,24 @@ use Rattle.bank.proofs.Lent.{pass, stop, inside, seen, unaltered}
 use borrow.Author.Needs.{needs}
 use Rattle.bank.proofs.opening.open_slot.Statement.{statement}
 use Rattle.bank.proofs.opening.open_slot.Tie as tie
-use Rattle.bank.proofs.opening.open_slot.Reads as reads
-use Rattle.bank.proofs.opening.open_slot.Lts as lts
-use Rattle.bank.proofs.damage.is_damaged.Reads as is-damaged-reads
-use Rattle.bank.proofs.opening.open_free.Reads as open-free-reads
 
--- src/opening.rt:17:8
 is-damaged-requires : tie.Need-is-damaged-requires
 is-damaged-requires c κs = search needs
 
--- src/opening.rt:18:9
 same-length : tie.Need-same-length
 same-length c = search needs
 
--- src/opening.rt:18:9
 returns : tie.Need-returns
 unfolding openedAt
 returns c = λ bank slot l.
     unaltered l _ ∙ sym (inside l _ _ _ ∙ stop _ _ (seen l isDamaged (sym (c .before .is-damaged .ensures) ∙ c .if1 .taken)))
 
--- src/opening.rt:20:8
 slice-read-if2 : tie.Need-slice-read-if2
 slice-read-if2 c = search needs
 
--- src/opening.rt:21:9
 same-length-2 : tie.Need-same-length-2
 same-length-2 c = search needs
 
--- src/opening.rt:21:9
 returns-2 : tie.Need-returns-2
 unfolding openedAt
 returns-2 c = λ bank slot l.
@@ -46,15 +36,12 @@ returns-2 c = λ bank slot l.
     ∙ stop _ _ (seen l isOpen (eq-eqb _ _ (c .if2 .taken)))
     )
 
--- src/opening.rt:23:5
 open-free-requires : tie.Need-open-free-requires
 open-free-requires c κs = all-zero (c .before .before .before .before .before .before .before .args .slot .now) (c .before .before .before .before .before .before .before .pre) (sym (c .before .before .before .before .is-damaged .ensures) ∙ c .before .before .before .if1 .left) (c .before .if2 .left)
 
--- src/opening.rt:13:1
 same-length-3 : tie.Need-same-length-3
 same-length-3 c = search needs
 
--- src/opening.rt:13:1
 returns-3 : tie.Need-returns-3
 returns-3 c = search needs
 
