@@ -6,8 +6,8 @@ from typing import NamedTuple
 
 from inputs import HIGH, LOW, any_sample, served_pairs
 from reference import (
-    BANK_BYTES, FRAME_BYTES, FRAME_FORM, LAST_SOC, MOST_TIME_BASE, PLACES, SLOT_BYTES, SYNC, Feed, Frame, checksum,
-    slot_of)
+    AFTER_FLAGS, BANK_BYTES, FIRST_ANGLE, FRAME_BYTES, FRAME_FORM, LAST_SOC, MOST_TIME_BASE, NOT_YET, PLACES,
+    SLOT_BYTES, SYNC, Feed, Frame, checksum, slot_of, true_phases)
 from replay import ARGUMENTS, new_memory, replay
 
 LENGTHS = (0, 1, 255, 256, 4095, 4096, 4097, 8191, 8192, 8193, 65535)
@@ -101,16 +101,22 @@ def any_samples(rng):
 
 
 def held_slot(samples, nominal=60, rate=60, held=31, soc=1000, index=45, place=7):
-    """The bytes of an open slot; with fewer than 31 held the index and place are the held."""
+    """The bytes of an open slot with true angles; with fewer than 31 held the index and place are the held."""
     if held < 31:
         index = place = held
     filled = tuple(samples[:held]) + ((0, 0, 0),) * (PLACES - held)
-    return slot_of(Feed(nominal, rate, held, soc, index, place, filled))
+    feed = Feed(nominal, rate, held, soc, index, place, filled, (NOT_YET,) * 3)
+    return slot_of(feed._replace(phases=true_phases(feed)))
 
 
 def edited(content, at, *values):
     """The bytes of a slot with those from at on replaced."""
     return content[:at] + bytes(values) + content[at + len(values):]
+
+
+def as_of_old(content):
+    """The bytes of a slot as an image from before CR 6 has them, with zeros where the angles and flags are kept."""
+    return edited(content, FIRST_ANGLE, *bytes(AFTER_FLAGS - FIRST_ANGLE))
 
 
 class Bench(NamedTuple):

@@ -1,4 +1,4 @@
-"""The class P model of document 01, with CR 1 to CR 5 of document 02, in the order of 01's sections and then the
+"""The class P model of document 01, with CR 1 to CR 6 of document 02, in the order of 01's sections and then the
 frames of CR 4, in exact whole numbers."""
 
 import math
@@ -186,17 +186,32 @@ def bits(number):
     return struct.unpack(">Q", struct.pack(">d", number))[0]
 
 
-def measure(sample, i, nominal):
-    """The figures at centre i, from the centres i-1, i, i+1."""
-    centres = [positive_sequence(sample, j) for j in (i - 1, i, i + 1)]
-    re, im = centres[1]
-    if any(no_phase(*centre) for centre in centres):
+class Phase(NamedTuple):
+    """The angle at a centre, and its no-phase flag: 1 where there is no phase, and the angle is then 0."""
+    angle: int
+    flag: int
+
+
+def phase_of(re, im):
+    """The phase of a centre's re and im."""
+    return Phase(angle(re, im), int(no_phase(re, im)))
+
+
+def figures_of(re, im, phases, nominal):
+    """The figures of re and im at centre i, and of the phases at i-1, i, i+1."""
+    if any(phase.flag for phase in phases):
         d1, d2, mark = 0, 0, 1
     else:
-        d1, d2 = differences(*[angle(*centre) for centre in centres])
+        d1, d2 = differences(*[phase.angle for phase in phases])
         mark = 0
     return Figures(re, im, d1, d2, mark, peak_counts(re), peak_counts(im),
                    frequency_deviation(d1, nominal), rocof(d2, nominal))
+
+
+def measure(sample, i, nominal):
+    """The figures at centre i, from the centres i-1, i, i+1."""
+    centres = [positive_sequence(sample, j) for j in (i - 1, i, i + 1)]
+    return figures_of(*centres[1], [phase_of(*centre) for centre in centres], nominal)
 
 
 class Refused(NamedTuple):
@@ -225,12 +240,21 @@ SLOT_BYTES = 256
 SLOTS = range(16)
 PLACES = 31
 FIRST_PLACE = 11
-AFTER_PLACES = 197
+# CR 6: bytes 197-208 keep the angles of the three newest centres, oldest first, bytes 209-211 their no-phase flags
+FIRST_ANGLE = 197
+FIRST_FLAG = 209
+AFTER_FLAGS = 212
+ANGLES_FORM = ">III"
+# how far the three newest centres stand behind the newest sample, oldest first
+BEHIND = (16, 15, 14)
 DONE = "done"
 SOUND, TRIMMED, CLOSED = "sound", "trimmed", "closed"
-# the two clauses of damage by which a slot is trimmed
+# the three clauses of damage by which a slot is trimmed
 STRAY_IN_PLACES = "a nonzero byte in an unfilled place"
-STRAY_AFTER_PLACES = "a nonzero byte after byte 196"
+FLAG_OVER_1 = "a flag over 1"
+STRAY_AFTER_FLAGS = "a nonzero byte after byte 211"
+# what is kept of a centre that has not 29 samples
+NOT_YET = Phase(0, 0)
 
 
 class Taken(NamedTuple):
@@ -250,7 +274,7 @@ class Mended(NamedTuple):
 
 
 class Feed(NamedTuple):
-    """A feed taken out of its slot."""
+    """A feed taken out of its slot; its phases are those kept of the three newest centres, oldest first."""
     nominal: int
     rate: int
     held: int
@@ -258,13 +282,16 @@ class Feed(NamedTuple):
     index: int
     place: int
     places: tuple
+    phases: tuple
 
 
 def feed_of(slot):
     """The feed that the 256 bytes of an open slot hold."""
     _, nominal, rate, held, soc, index, place = struct.unpack(">BBBBIHB", slot[:FIRST_PLACE])
-    places = tuple(struct.iter_unpack(">hhh", slot[FIRST_PLACE:AFTER_PLACES]))
-    return Feed(nominal, rate, held, soc, index, place, places)
+    places = tuple(struct.iter_unpack(">hhh", slot[FIRST_PLACE:FIRST_ANGLE]))
+    angles = struct.unpack(ANGLES_FORM, slot[FIRST_ANGLE:FIRST_FLAG])
+    phases = tuple(map(Phase, angles, slot[FIRST_FLAG:AFTER_FLAGS]))
+    return Feed(nominal, rate, held, soc, index, place, places, phases)
 
 
 def slot_of(feed):
@@ -272,7 +299,29 @@ def slot_of(feed):
     head = struct.pack(">BBBBIHB", 1, feed.nominal, feed.rate, feed.held,
                        feed.soc, feed.index, feed.place)
     places = b"".join(struct.pack(">hhh", *sample) for sample in feed.places)
-    return (head + places).ljust(SLOT_BYTES, b"\0")
+    angles = struct.pack(ANGLES_FORM, *[phase.angle for phase in feed.phases])
+    flags = bytes(phase.flag for phase in feed.phases)
+    return (head + places + angles + flags).ljust(SLOT_BYTES, b"\0")
+
+
+def held_samples(feed):
+    """The samples held, oldest first: with 31 held the next place holds the oldest."""
+    return feed.places[feed.place:] + feed.places[:feed.place] if feed.held == 31 else feed.places[:feed.held]
+
+
+def phase_behind(feed, behind):
+    """The phase of the centre so far behind the newest sample; zero and flag 0 where it has not 29 samples held."""
+    if feed.held < behind + 15:
+        return NOT_YET
+    samples = held_samples(feed)
+    # an index below 0 is the second before's, and has the same table entries: the sampling is a multiple of 15
+    oldest = feed.index - feed.held
+    return phase_of(*positive_sequence(lambda n: samples[n - oldest], feed.index - 1 - behind))
+
+
+def true_phases(feed):
+    """The phases of the three newest centres, oldest first, worked out from the samples held."""
+    return tuple(phase_behind(feed, behind) for behind in BEHIND)
 
 
 def unfilled_from(feed):
@@ -303,9 +352,11 @@ def damage(slot):
         "31 held with SOC 0 and index under 31":
             feed.held == 31 and feed.soc == 0 and feed.index < 31,
         STRAY_IN_PLACES:
-            any(slot[unfilled_from(feed):AFTER_PLACES]),
-        STRAY_AFTER_PLACES:
-            any(slot[AFTER_PLACES:]),
+            any(slot[unfilled_from(feed):FIRST_ANGLE]),
+        FLAG_OVER_1:
+            any(phase.flag > 1 for phase in feed.phases),
+        STRAY_AFTER_FLAGS:
+            any(slot[AFTER_FLAGS:]),
     }
     return [clause for clause, met in clauses.items() if met]
 
@@ -365,7 +416,7 @@ def open_feed(bank, slot, nominal, rate, soc):
     if refusal:
         return refusal
     feed = Feed(nominal, kept_rate(nominal, rate), held=0, soc=soc, index=0, place=0,
-                places=((0, 0, 0),) * PLACES)
+                places=((0, 0, 0),) * PLACES, phases=(NOT_YET,) * 3)
     put_slot(bank, slot, slot_of(feed))
     return DONE
 
@@ -376,18 +427,21 @@ def is_last_sample(feed):
 
 
 def with_sample(feed, sample):
-    """The feed after a sample goes in the next place, which then moves on one, 30 to 0."""
+    """The feed after a sample goes in the next place, which then moves on one, 30 to 0. The three phases move on by
+    one, whatever they are, and the newest centre's comes last."""
     places = feed.places[:feed.place] + (sample,) + feed.places[feed.place + 1:]
     place = 0 if feed.place == 30 else feed.place + 1
     held = min(feed.held + 1, 31)
     soc, index = feed.soc, feed.index + 1
     if index == sampling(feed.nominal):
         soc, index = feed.soc + 1, 0
-    return Feed(feed.nominal, feed.rate, held, soc, index, place, places)
+    following = Feed(feed.nominal, feed.rate, held, soc, index, place, places, feed.phases)
+    return following._replace(phases=feed.phases[1:] + (phase_behind(following, BEHIND[-1]),))
 
 
 def report_at(feed, soc, index):
-    """The report due with the newest sample, of this SOC and index; None if none is due."""
+    """The report due with the newest sample, of this SOC and index; None if none is due. re and im are those at its
+    centre; p, q and r are the three kept."""
     if feed.held < 31:
         return None
     centre_soc, centre = soc, index - 15
@@ -396,10 +450,10 @@ def report_at(feed, soc, index):
     spacing = frame_spacing(feed.nominal, feed.rate)
     if centre % spacing != 0:
         return None
-    # with 31 held the next place holds the oldest sample, whose index is the centre's - 15
-    window = feed.places[feed.place:] + feed.places[:feed.place]
-    figures = measure(lambda n: window[n - (centre - 15)], centre, feed.nominal)
-    return Report(centre_soc, centre // spacing, figures)
+    # the index of the oldest sample is the centre's - 15
+    window = held_samples(feed)
+    re, im = positive_sequence(lambda n: window[n - (centre - 15)], centre)
+    return Report(centre_soc, centre // spacing, figures_of(re, im, feed.phases, feed.nominal))
 
 
 def push(bank, slot, a, b, c):
@@ -429,13 +483,16 @@ def close(bank, slot):
 
 
 def mended(slot):
-    """CR 3: the word for the 256 bytes of a slot, and the bytes that it is mended to."""
+    """CR 3 and CR 6: the word for the 256 bytes of a slot, and the bytes that it is mended to."""
     clauses = set(damage(slot))
-    if not clauses:
+    if not clauses <= {STRAY_IN_PLACES, FLAG_OVER_1, STRAY_AFTER_FLAGS}:
+        return CLOSED, bytes(SLOT_BYTES)
+    if slot[0] == 0:
         return SOUND, slot
-    if clauses <= {STRAY_IN_PLACES, STRAY_AFTER_PLACES}:
-        return TRIMMED, slot[:unfilled_from(feed_of(slot))].ljust(SLOT_BYTES, b"\0")
-    return CLOSED, bytes(SLOT_BYTES)
+    # the unfilled places and all after byte 211 are zero, and the three phases are those of the samples
+    feed = feed_of(slot[:unfilled_from(feed_of(slot))].ljust(SLOT_BYTES, b"\0"))
+    after = slot_of(feed._replace(phases=true_phases(feed)))
+    return SOUND if not clauses and after == slot else TRIMMED, after
 
 
 def differing_bytes(before, after):

@@ -1,4 +1,5 @@
-"""The scenes of a replay script that reach every edge of document 01, of CR 1, of CR 2 and of CR 3."""
+"""The scenes of a replay script that reach every edge of document 01, of CR 1, of CR 2 and of CR 3, and of damage as
+CR 6 has it."""
 
 import itertools
 import math
@@ -6,8 +7,8 @@ import math
 from inputs import HIGH, LOW, any_runs, any_sample, any_wave, opening_pairs, served_pairs
 from maker import FREE, LENGTHS, any_samples, edited, held_slot
 from reference import (
-    AFTER_PLACES, BANK_BYTES, CLOSED, FIRST_PLACE, LAST_SOC, LIMITS, PLACES, SERVED, SLOT_BYTES, SLOTS, SOUND, TRIMMED,
-    cos, damage, frame_spacing, kept_rate, mended, sampling, slot_bytes)
+    AFTER_FLAGS, BANK_BYTES, CLOSED, FIRST_ANGLE, FIRST_FLAG, FIRST_PLACE, LAST_SOC, LIMITS, PLACES, SERVED, SLOT_BYTES,
+    SLOTS, SOUND, TRIMMED, cos, damage, frame_spacing, kept_rate, mended, sampling, slot_bytes)
 from replay import MEMORY_BYTES
 from windows import windows
 
@@ -117,7 +118,7 @@ def orders_of_the_bank(maker):
     last = held_slot(any_samples(maker.rng), soc=LAST_SOC, index=899)
     sound = held_slot(any_samples(maker.rng))
     contents = (FREE, sound, last, edited(FREE, 0, 2), edited(FREE, 9, 1), edited(sound, 255, 1),
-                edited(last, 200, 1), edited(last, 0, 0), edited(last, 0, 9))
+                edited(last, 210, 2), edited(last, 0, 0), edited(last, 0, 9))
     for content in contents:
         for length, slot in itertools.product((BANK_BYTES, 4095, 8192), (9, 16)):
             for nominal, rate in itertools.product((60, 51), (60, 11, 50)):
@@ -177,8 +178,8 @@ def held_cases(rng, samples):
 
 
 def place_cases(rng, samples):
-    """Every place up to 30, and over it."""
-    for place in list(range(PLACES)) + [31, 32, 128, 255]:
+    """Places up to 30, and over it."""
+    for place in (0, 1, 2, 14, 15, 16, 28, 29, 30, 31, 32, 128, 255):
         yield held_slot(samples, place=place), place > 30
 
 
@@ -199,9 +200,8 @@ def early_cases(rng, samples):
     for nominal, rate in ((50, 50), (60, 60)):
         for index in (0, 1, 15, 29, 30, 31, 32, 256, 300):
             yield held_slot(samples, nominal, rate, soc=0, index=index), index < 31
-        for soc in (1, 256, 65536, 16777216, LAST_SOC):
-            for index in (0, 15, 30):
-                yield held_slot(samples, nominal, rate, soc=soc, index=index), False
+        for soc, index in ((1, 0), (1, 15), (1, 30), (256, 30), (65536, 0), (16777216, 15), (LAST_SOC, 30)):
+            yield held_slot(samples, nominal, rate, soc=soc, index=index), False
         for held in (0, 14, 30):
             yield held_slot(samples, nominal, rate, held=held, soc=0), False
 
@@ -213,17 +213,33 @@ def unfilled_cases(rng, samples):
         unfilled = FIRST_PLACE + 6 * held
         if held > 0:
             yield edited(content, unfilled - 1, rng.randint(1, 255)), False
-        for at in {unfilled, unfilled + 5, rng.randrange(unfilled, AFTER_PLACES), AFTER_PLACES - 1}:
+        for at in {unfilled, unfilled + 5, rng.randrange(unfilled, FIRST_ANGLE), FIRST_ANGLE - 1}:
             yield edited(content, at, rng.choice((1, 128, 255))), True
-    yield edited(held_slot(samples), AFTER_PLACES - 1, 255), False
+    yield edited(held_slot(samples), FIRST_ANGLE - 1, 255), False
+
+
+def flag_cases(rng, samples):
+    """Each flag about 1, with 31 held and fewer, and each byte of the angles, where nothing is damage."""
+    few = held_slot(samples, held=2)
+    for content in (held_slot(samples), few):
+        for at in range(FIRST_FLAG, AFTER_FLAGS):
+            for flag in (2, 3, 128, 255, 0, 1):
+                yield edited(content, at, flag), flag > 1
+    for at in range(FIRST_ANGLE, FIRST_FLAG):
+        yield edited(few, at, rng.choice((1, 2, 255))), False
+    for flags, damaged in (((1, 1, 1), False), ((2, 2, 2), True), ((255, 0, 1), True)):
+        yield edited(few, FIRST_ANGLE, *bytes([255]) * 12, *flags), damaged
 
 
 def after_cases(rng, samples):
-    """Each byte after byte 196, with 31 held and fewer."""
-    for at in range(AFTER_PLACES, SLOT_BYTES):
+    """Each byte after byte 211, with 31 held and fewer, and byte 211 itself."""
+    for at in range(AFTER_FLAGS, SLOT_BYTES):
         yield edited(held_slot(samples), at, rng.choice((1, 255))), True
-    for at in (AFTER_PLACES, 255):
+    for at in (AFTER_FLAGS, 255):
         yield edited(held_slot(samples, held=6), at, 1), True
+    for content in (held_slot(samples), held_slot(samples, held=6)):
+        yield edited(content, AFTER_FLAGS - 1, 1), False
+        yield edited(content, AFTER_FLAGS - 1, 1, 1), True
     yield held_slot(samples), False
 
 
@@ -237,7 +253,8 @@ DAMAGE_CASES = {
     "fewer than 31 held where place or index differs from held": uneven_cases,
     "31 held with SOC 0 and index under 31": early_cases,
     "a nonzero byte in an unfilled place": unfilled_cases,
-    "a nonzero byte after byte 196": after_cases,
+    "a flag over 1": flag_cases,
+    "a nonzero byte after byte 211": after_cases,
 }
 
 
@@ -277,14 +294,17 @@ def one_damaged_of_sixteen(maker):
     for slot in SLOTS:
         maker.lay(slot, held_slot(any_samples(maker.rng), place=slot))
     for slot in SLOTS:
-        at = SLOT_BYTES * slot + maker.rng.randrange(AFTER_PLACES, SLOT_BYTES)
-        maker.set(at, 1)
+        at, value = maker.rng.choice(((maker.rng.randrange(FIRST_FLAG, AFTER_FLAGS), 2),
+                                      (maker.rng.randrange(AFTER_FLAGS, SLOT_BYTES), 1)))
+        at += SLOT_BYTES * slot
+        before = maker.memory[at]
+        maker.set(at, value)
         for other in SLOTS:
             maker.push(other)
         maker.close(slot)
         maker.open(slot)
         maker.show(slot)
-        maker.set(at, 0)
+        maker.set(at, before)
         maker.push(slot)
     maker.show(*SLOTS)
     maker.clear()
@@ -322,7 +342,7 @@ def one_mended_of_sixteen(maker):
         maker.open(slot, nominal, nominal)
         for _ in range(held):
             maker.push(slot)
-        maker.set(SLOT_BYTES * slot + FIRST_PLACE + 6 * held, 1)
+        maker.set(SLOT_BYTES * slot + (AFTER_FLAGS if held == 31 else FIRST_PLACE + 6 * held), 1)
         maker.push(slot)
         mend_shown(maker, slot)
     for slot in (0, 14, 15):
@@ -351,18 +371,23 @@ EDGES_OF_31 = (
 
 
 def salvage_of_31(maker):
-    """Both sides of the edges of slots that hold 31, first with a byte after byte 196."""
+    """Both sides of the edges of slots that hold 31, first with a byte after byte 211."""
     slots = range(5, 5 + len(EDGES_OF_31))
     for slot, (nominal, soc, at, sound, _) in zip(slots, EDGES_OF_31):
         maker.open(slot, nominal, nominal, soc)
         for _ in range(PLACES):
             maker.push(slot)
         maker.lay(slot, edited(slot_bytes(maker.memory, slot), at, *sound))
-        maker.set(SLOT_BYTES * slot + maker.rng.randrange(AFTER_PLACES, SLOT_BYTES), 1)
+        maker.set(SLOT_BYTES * slot + maker.rng.randrange(AFTER_FLAGS, SLOT_BYTES), 1)
     mend_shown(maker, *slots)
     for slot, (_, _, at, _, damaged) in zip(slots, EDGES_OF_31):
         maker.lay(slot, edited(slot_bytes(maker.memory, slot), at, *damaged))
     mend_shown(maker, *slots)
+
+
+# the last byte of the places, of the angles, of the flags and of the slot, and the bytes that follow them
+EDGES_AFTER_PLACES = (FIRST_ANGLE - 1, FIRST_ANGLE, FIRST_FLAG - 1, FIRST_FLAG, AFTER_FLAGS - 1, AFTER_FLAGS,
+                      SLOT_BYTES - 1)
 
 
 def salvage_cases(samples):
@@ -371,12 +396,13 @@ def salvage_cases(samples):
     unfilled = FIRST_PLACE + 6
     for content in (FREE, none, one, held_slot(samples, 50, 25, held=2), edited(one, unfilled - 1, 255)):
         yield content, SOUND
-    for at in (FIRST_PLACE, AFTER_PLACES - 1, AFTER_PLACES, SLOT_BYTES - 1):
+    for at in (FIRST_PLACE, *EDGES_AFTER_PLACES):
         yield edited(none, at, 1), TRIMMED
-    for at, *values in ((unfilled, 255), (unfilled - 1, 9, 9), (AFTER_PLACES - 2, 1, 2, 3, 4), (AFTER_PLACES, 5, 0, 5)):
+    for at, *values in ((unfilled, 255), (unfilled - 1, 9, 9), (FIRST_ANGLE - 2, 1, 2, 3, 4), (FIRST_ANGLE, 5, 0, 5),
+                        (FIRST_FLAG, 2), (FIRST_FLAG + 1, 255), (AFTER_FLAGS - 1, 1, 1), (AFTER_FLAGS, 5, 0, 5)):
         yield edited(one, at, *values), TRIMMED
-    yield edited(none, AFTER_PLACES, *range(1, SLOT_BYTES - AFTER_PLACES + 1)), TRIMMED
-    for at in (1, 3, FIRST_PLACE, AFTER_PLACES - 1, AFTER_PLACES, SLOT_BYTES - 1):
+    yield edited(none, FIRST_ANGLE, *range(1, SLOT_BYTES - FIRST_ANGLE + 1)), TRIMMED
+    for at in (1, 3, FIRST_PLACE, *EDGES_AFTER_PLACES):
         yield edited(FREE, at, 1), CLOSED
     for state in (2, 128, 255):
         yield edited(FREE, 0, state), CLOSED

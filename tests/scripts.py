@@ -9,6 +9,7 @@ endings PROGRAM                                runs it on short scripts of every
 
 import collections
 
+from angle_scenes import ANGLE_SCENES
 from commands import compared, compared_on, dispatch, printed_by
 from files import PIECES, printed_by as printed_in_pieces
 from frame_scenes import BENCH, FRAME_SCENES
@@ -53,7 +54,7 @@ ENDINGS = {"cut": cut_endings, "unknown": unknown_endings}
 def made(seed, calls, ending=None):
     """A script that reaches every edge and then goes on at random."""
     maker = Maker(seed)
-    for scene in SCENES + PHASE_SCENES + FRAME_SCENES:
+    for scene in SCENES + PHASE_SCENES + ANGLE_SCENES + FRAME_SCENES:
         scene(maker)
     any_traffic(maker, calls)
     if ending:

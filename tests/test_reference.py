@@ -1,19 +1,20 @@
-"""The figures of document 01 and of CR 1 to CR 5 on both sides of each edge, held against the model."""
+"""The figures of document 01 and of CR 1 to CR 6 on both sides of each edge, held against the model."""
 
 import binascii
 import itertools
 import random
 
+from angle_figures import ANGLE_CHECKS, kept_slots
 from files import document, header
 from frame_scenes import ORDER, other_checksums, with_faults, wrapping_tags
 from inputs import served_pairs
 from maker import FREE, Bench, agreeing, any_bench, any_figures, edited, flipped, frame_bytes, held_slot, sealed
 from phase_figures import PHASE_CHECKS
 from reference import (
-    AFTER_PLACES, BANK_BYTES, CLOSED, DONE, LEFT_OUT, PLACES, SERVED, SLOT_BYTES, SLOTS, SOUND, TRIMMED, Device, Fate,
-    Feed, Frame, Mended, Reading, Reference, Refused, Taken, Verdict, bits, checksum, clear, damage, differences,
-    feed_of, frame_spacing, frequency_deviation, judge, listing, open_feed, push, put_slot, read_frame, salvage,
-    sampling, slot_bytes, slot_of, whole_run, within_tve)
+    BANK_BYTES, CLOSED, DONE, LEFT_OUT, PLACES, SERVED, SLOT_BYTES, SLOTS, SOUND, TRIMMED, Device, Fate, Frame, Mended,
+    Reading, Reference, Refused, Taken, Verdict, bits, checksum, clear, damage, differences, feed_of, frame_spacing,
+    frequency_deviation, judge, listing, open_feed, push, put_slot, read_frame, salvage, sampling, slot_bytes, slot_of,
+    whole_run, within_tve)
 
 CLASSES = (0, 1)
 STEADY, RAMP = 0, 1
@@ -70,8 +71,7 @@ def left_out_intervals():
 def last_second():
     """SOC 4294967295, 60 Hz: index 898 taken, 899 refused 8."""
     bank = bytearray(BANK_BYTES)
-    held = Feed(60, 60, held=31, soc=4294967295, index=898, place=0, places=((1, 2, 3),) * 31)
-    put_slot(bank, 3, slot_of(held))
+    put_slot(bank, 3, held_slot(((1, 2, 3),) * 31, soc=4294967295, index=898, place=0))
     yield push(bank, 3, 0, 0, 0), Taken(None)
     before = bytes(bank)
     yield push(bank, 3, 0, 0, 0), Refused(8)
@@ -118,59 +118,63 @@ def rate_0_in_headers():
 # ---------------------------------------------------------------------------
 # CR 3: a figure is the bytes of a slot before and after, its word and its count
 
+# equal phases, which have no phase: from 29 held on the flags are 1
 SAMPLES = ((257, 257, 257),) * PLACES
 FULL = held_slot(SAMPLES, held=31)
 SOME = held_slot(SAMPLES, held=6)
 NONE = held_slot(SAMPLES, held=0)
 AFTER_SIX = 11 + 6 * 6
-# slots with each clause of faulty numbers, and their nonzero bytes: FULL has 194, of which 186 are its samples
+# the last byte of the places, of the angles, of the flags and of the slot, and the bytes that follow them
+AFTER_EDGES = (196, 197, 208, 209, 211, 212, 255)
+# slots with each clause of faulty numbers, and their nonzero bytes: FULL has 197, of which 186 are its samples and 3
+# its flags
 FAULTY_NUMBERS = (
-    (edited(FULL, 1, 51), 194), (edited(FULL, 1, 0), 193), (edited(FULL, 2, 11), 194), (edited(FULL, 2, 0), 193),
-    (edited(FULL, 1, 50), 194), (edited(NONE, 2, 0), 4),
-    (edited(FULL, 8, 3, 132), 195), (edited(FULL, 8, 255, 255), 195),
-    (held_slot(SAMPLES, nominal=50, rate=50, index=750), 195),
-    (edited(FULL, 3, 32), 194), (edited(FULL, 3, 255), 194),
-    (edited(FULL, 10, 31), 194), (edited(FULL, 10, 255), 194),
+    (edited(FULL, 1, 51), 197), (edited(FULL, 1, 0), 196), (edited(FULL, 2, 11), 197), (edited(FULL, 2, 0), 196),
+    (edited(FULL, 1, 50), 197), (edited(NONE, 2, 0), 4),
+    (edited(FULL, 8, 3, 132), 198), (edited(FULL, 8, 255, 255), 198),
+    (held_slot(SAMPLES, nominal=50, rate=50, index=750), 198),
+    (edited(FULL, 3, 32), 197), (edited(FULL, 3, 255), 197),
+    (edited(FULL, 10, 31), 197), (edited(FULL, 10, 255), 197),
     (edited(SOME, 10, 5), 44), (edited(SOME, 10, 7), 44), (edited(SOME, 9, 5), 44), (edited(SOME, 9, 7), 44),
     (edited(SOME, 8, 1), 45), (edited(SOME, 9, 7, 7), 44), (edited(SOME, 3, 5), 44), (edited(NONE, 10, 1), 6),
-    (held_slot(SAMPLES, soc=0, index=30), 192), (held_slot(SAMPLES, soc=0, index=0), 191),
+    (held_slot(SAMPLES, soc=0, index=30), 195), (held_slot(SAMPLES, soc=0, index=0), 194),
 )
 
 
 def sound_slots():
     """Free and open slots, none, some and 31 held; the last byte of the last filled place is a sample's."""
     for slot in (FREE, NONE, SOME, FULL, held_slot(SAMPLES, nominal=50, rate=10), edited(SOME, AFTER_SIX - 1, 255),
-                 edited(SOME, AFTER_SIX - 1, 0), edited(FULL, 196, 255), edited(FULL, 196, 0)):
+                 edited(SOME, AFTER_SIX - 1, 0), edited(FULL, 196, 2), edited(FULL, 196, 0)):
         yield slot, slot, SOUND, 0
 
 
 def trimmed_slots():
-    """Nonzero bytes in unfilled places or after byte 196 alone are set to zero."""
-    for at in (11, 16, 17, 196, 197, 255):
+    """Nonzero bytes in unfilled places or after byte 211 are set to zero, and what is kept is made true."""
+    for at in (11, 16, 17, *AFTER_EDGES):
         yield edited(NONE, at, 1), NONE, TRIMMED, 1
-    for at in (AFTER_SIX, AFTER_SIX + 5, AFTER_SIX + 6, 196, 197, 255):
+    for at in (AFTER_SIX, AFTER_SIX + 5, AFTER_SIX + 6, *AFTER_EDGES):
         yield edited(SOME, at, 255), SOME, TRIMMED, 1
-    for at in (197, 198, 255):
+    for at in AFTER_EDGES[1:]:
         yield edited(FULL, at, 128), FULL, TRIMMED, 1
     almost = held_slot(SAMPLES, held=30)
-    for at in (191, 196, 197):
+    for at in (191, *AFTER_EDGES):
         yield edited(almost, at, 7), almost, TRIMMED, 1
-    yield edited(FULL, 196, 255, 255), edited(FULL, 196, 255), TRIMMED, 1
+    yield edited(FULL, 196, 2, 255), edited(FULL, 196, 2), TRIMMED, 1
     yield edited(SOME, AFTER_SIX - 1, 9, 9), edited(SOME, AFTER_SIX - 1, 9), TRIMMED, 1
     yield edited(SOME, 195, 1, 2, 3, 4), SOME, TRIMMED, 4
     yield edited(SOME, 195, 1, 0, 3, 0, 5), SOME, TRIMMED, 3
-    yield edited(FULL, AFTER_PLACES, *range(1, 60)), FULL, TRIMMED, 59
+    yield edited(FULL, 197, *range(1, 60)), FULL, TRIMMED, 59
     yield edited(NONE, 11, *range(1, 246)), NONE, TRIMMED, 245
 
 
 def closed_slots():
     """Any other damaged slot is all zero; its nonzero bytes are those that differ."""
-    for at in (1, 11, 196, 197, 255):
+    for at in (1, 11, *AFTER_EDGES):
         yield edited(FREE, at, 1), FREE, CLOSED, 1
     for state in (2, 255):
         yield edited(FREE, 0, state), FREE, CLOSED, 1
-        yield edited(FULL, 0, state), FREE, CLOSED, 194
-    yield edited(FULL, 0, 0), FREE, CLOSED, 193
+        yield edited(FULL, 0, state), FREE, CLOSED, 197
+    yield edited(FULL, 0, 0), FREE, CLOSED, 196
     yield bytes([1]) * SLOT_BYTES, FREE, CLOSED, 256
     yield bytes([2]) * SLOT_BYTES, FREE, CLOSED, 256
     yield bytes([0]) + bytes([255]) * 255, FREE, CLOSED, 255
@@ -191,6 +195,7 @@ def slots_with_both():
     """A slot with both kinds of damage is closed."""
     for faulty, count in FAULTY_NUMBERS:
         yield edited(faulty, 255, 1), FREE, CLOSED, count + 1
+        yield edited(faulty, 209, 2), FREE, CLOSED, count if faulty[209] else count + 1
     yield edited(edited(SOME, 9, 7), AFTER_SIX, 1), FREE, CLOSED, 45
     yield edited(edited(NONE, 1, 51), 11, *range(1, 246)), FREE, CLOSED, 250
 
@@ -198,8 +203,8 @@ def slots_with_both():
 def mended_alone():
     """Each slot figure, in one slot among sound ones: only that slot is altered, and mended again nothing is."""
     others = [FULL, FREE, SOME, NONE] * 4
-    figures = [figure for figures in (sound_slots, trimmed_slots, closed_slots, beside_faulty_numbers, slots_with_both)
-               for figure in figures()]
+    figures = [figure for figures in (sound_slots, trimmed_slots, closed_slots, beside_faulty_numbers, slots_with_both,
+                                      kept_slots) for figure in figures()]
     for n, (before, after, word, count) in enumerate(figures):
         # slot 15 first, and every other in turn
         slot = 15 - n % 16
@@ -218,7 +223,7 @@ def mended_alone():
 def mended_together():
     """Slots of each kind beside each other: what becomes of one depends on its bytes alone."""
     kinds = [(FREE, FREE, SOUND, 0), (edited(SOME, 197, 1), SOME, TRIMMED, 1), (edited(FREE, 255, 1), FREE, CLOSED, 1),
-             (edited(edited(FULL, 2, 0), 255, 1), FREE, CLOSED, 194)]
+             (edited(edited(FULL, 2, 0), 255, 1), FREE, CLOSED, 197)]
     for turn in range(4):
         slots = (kinds[turn:] + kinds[:turn]) * 4
         bank = bytearray(b"".join(before for before, _, _, _ in slots))
@@ -471,7 +476,8 @@ CHECKS = (wrapped_differences, total_vector_errors, steady_frequency_errors, ste
           last_second, runs_of_31, whole_listing, rate_0_at_opening, rate_0_in_headers, mended_alone, mended_together,
           refused_salvage, pushes_after_salvage, known_checksums, frame_by_hand, read_figures, time_qualities,
           bench_refusals, lengths, syncs_and_sizes, changed_bits, ids_and_stats, differences_of_tags,
-          tags_beyond_the_second, tags_of_seconds, tags_that_wrap, orders_of_reading, *PHASE_CHECKS, bank_and_whole_run)
+          tags_beyond_the_second, tags_of_seconds, tags_that_wrap, orders_of_reading, *PHASE_CHECKS, *ANGLE_CHECKS,
+          bank_and_whole_run)
 
 
 def main():

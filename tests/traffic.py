@@ -2,10 +2,12 @@
 
 import struct
 
+from angle_scenes import any_kept, put_kept
 from inputs import any_runs, any_stretch, clipped, dead_noise, opening_pairs
 from maker import FREE, LENGTHS, agreeing, any_bench, any_figures, edited, flipped, frame_bytes, sealed
 from reference import (
-    BANK_BYTES, FIRST_PLACE, FRAME_BYTES, LAST_SOC, SLOT_BYTES, SLOTS, damage, is_open, sampling, slot_bytes)
+    AFTER_FLAGS, BANK_BYTES, FIRST_ANGLE, FIRST_PLACE, FRAME_BYTES, LAST_SOC, SLOT_BYTES, SLOTS, damage, is_open,
+    sampling, slot_bytes)
 
 
 def judge_closely(maker, device):
@@ -100,9 +102,10 @@ def any_whole_run(maker):
 
 
 def any_change(maker, slot):
-    """A byte of a slot is changed."""
+    """A byte of a slot is changed, of its numbers, of its angles and flags, or any."""
     rng = maker.rng
-    at = SLOT_BYTES * slot + rng.choice((rng.randrange(FIRST_PLACE), rng.randrange(SLOT_BYTES)))
+    at = SLOT_BYTES * slot + rng.choice((rng.randrange(FIRST_PLACE), rng.randrange(FIRST_ANGLE, AFTER_FLAGS),
+                                         rng.randrange(SLOT_BYTES)))
     maker.set(at, rng.choice((0, 1, maker.memory[at] ^ 1, rng.randint(0, 255))))
 
 
@@ -125,6 +128,13 @@ def any_salvage(maker):
         for _ in range(rng.choice((1, 1, 1, 2, 9))):
             any_change(maker, slot)
     maker.mend()
+
+
+def any_untrue(maker):
+    """Other angles and flags are put in an open slot."""
+    slot = maker.rng.choice(SLOTS)
+    if is_open(maker.memory, slot):
+        put_kept(maker, slot, any_kept(maker.rng))
 
 
 def any_moment(maker):
@@ -189,8 +199,8 @@ def any_show(maker):
     maker.show(maker.rng.choice(SLOTS))
 
 
-TRAFFIC = {any_pushes: 30, any_opening: 12, any_closing: 3, any_damage: 6, any_salvage: 2, any_moment: 4, any_show: 12,
-           any_judging: 40, any_readings: 20, any_whole_run: 8, any_length: 2}
+TRAFFIC = {any_pushes: 30, any_opening: 12, any_closing: 3, any_damage: 6, any_salvage: 2, any_untrue: 2, any_moment: 4,
+           any_show: 12, any_judging: 40, any_readings: 20, any_whole_run: 8, any_length: 2}
 
 
 def any_traffic(maker, calls):

@@ -4,10 +4,12 @@ use mathlib.Core.Bool.{Bool, true, false, cond}
 use mathlib.Core.List.{List}
 use Prim.Native.Nat.{ℕ}
 use Rattle.model.specs.declared.report.Figures.{Figures}
+use Rattle.model.specs.declared.report.Phases.{Phases}
 use Rattle.feed.specs.declared.Answer.the-variants.{Refused, Taken}
 use Rattle.feed.proofs.Unique.{unsaid}
 use Rattle.feed.specs.Answers.{Said, refused, done, taken, said, tagged}
-use Rattle.feed.specs.History.{History, centreOf, isDue, reportAt, answered}
+use Rattle.feed.specs.History.{History, centreOf, isDue}
+use Rattle.feed.specs.Kept.{reportFrom, answeredFrom}
 use Rattle.feed.specs.declared.Feed.{Feed}
 use Rattle.feed.specs.Ring.{stored, historyOf, Next, pushed}
 use Rattle.bank.specs.declared.Settled.the-variants.{Refused as SettledRefused, Done}
@@ -44,11 +46,11 @@ tagged-granted : (soc frame : ℕ) (f : Figures) → Grants said refused (tagged
 unfolding tagged
 tagged-granted soc frame f = record { answer = unsaid (tagged soc frame f); says = refl; no-refusal = λ n e. let z : _≡_ {A = ℕ} 0 1 = cc in omega arith }
 
-answered-granted : (h : History) → Grants said refused (answered h)
-unfolding answered reportAt
-answered-granted h = go (isDue h)
+answered-granted : (h : History) (k : Phases) → Grants said refused (answeredFrom h k)
+unfolding answeredFrom reportFrom
+answered-granted h k = go (isDue h)
   where
-    go : (b : Bool) → Grants said refused (cond b (reportAt h (centreOf h)) taken)
+    go : (b : Bool) → Grants said refused (cond b (reportFrom h (centreOf h) k) taken)
     go true = tagged-granted _ _ _
     go false = record { answer = Taken; says = refl; no-refusal = λ n e. let z : _≡_ {A = ℕ} 0 1 = cc in omega arith }
 
@@ -96,15 +98,16 @@ condition-a = record {
   clearing = λ bank. settles _ bank _;
   opening = λ bank slot nominal rate soc. settles _ bank _;
   pushing = λ bank slot s.
-      let g = answered-granted (historyOf (stored (feedIn (slotAt bank slot)) s)) in
+      let next : Feed = stored (feedIn (slotAt bank slot)) s in
+      let g = answered-granted (historyOf next) (next .kept) in
       refuses (onBank said) refused (λ m n e. cc) Refused (λ n. refl) _ bank _ _ (g .answer)
-      (λ i. record { answer = g .says i; bank = withSlot bank slot (slotOf (stored (feedIn (slotAt bank slot)) s)) }) (λ n e. g .no-refusal n (sym (g .says) ∙ e));
+      (λ i. record { answer = g .says i; bank = withSlot bank slot (slotOf next) }) (λ n e. g .no-refusal n (sym (g .says) ∙ e));
   closing = λ bank slot. settles _ bank _;
   salvaging = λ image.
       refuses onImage salvageRefused (λ m n e. cc) (λ n. record { ending = EndingRefused n; slots = allSound }) (λ n. refl) _ image _ _
       (record { ending = Mended; slots = eachSlot told image 0 16 }) refl (λ n e. let z : _≡_ {A = ℕ} 0 1 = cc in omega arith);
   feeding = λ f s.
-      let g = answered-granted (historyOf (stored f s)) in
+      let g = answered-granted (historyOf (stored f s)) (stored f s .kept) in
       refuses onFeed refused (λ m n e. cc) Refused (λ n. refl) _ f _ _ (g .answer)
       (λ i. record { answer = g .says i; feed = stored f s }) (λ n e. g .no-refusal n (sym (g .says) ∙ e));
   judging = λ class test m device reference.

@@ -31,6 +31,7 @@ use Rattle.runs.proofs.Feeds.{due-held, same-measurement}
 use Rattle.phs.proofs.Whole.{every-cut}
 use Rattle.acceptance.specs.Runs.{I16, samples, sampleBy, Call, Ran, ends, goes-on, asksOf, answersOf}
 use Rattle.acceptance.specs.Alone.{openWith, stepped, startOf, answersAlone}
+use Rattle.acceptance.specs.Reached.{Reached}
 use Rattle.acceptance.specs.ConditionB.{ConditionB}
 use Rattle.acceptance.proofs.ConditionC.{condition-c}
 use Rattle.acceptance.proofs.Within.{within-exactly-when}
@@ -40,27 +41,27 @@ use Rattle.acceptance.proofs.Refusing.{given, granted, Through, met, pa
 not-free : (s : List ℕ) → isOpen s ≡ true → isFree s ≡ false
 not-free s e = ne-eqb (stateIn s) 0 (λ z. omega (arith, z, eqb-true (stateIn s) 1 e))
 
-each-push : (bank after : List ℕ) (slot : ℕ) (a b c : I16) (r : Answer) → length bank ≡ 4096 → slot ≤ 15
+each-push : (bank after : List ℕ) (slot : ℕ) (a b c : I16) (r : Answer) → Reached bank → length bank ≡ 4096 → slot ≤ 15
     → isDamaged (slotAt bank slot) ≡ false → isOpen (slotAt bank slot) ≡ true → Pushing bank slot (sampleBy a b c) r after
     → said r ≡ (told (historyOf (feedIn (slotAt bank slot))) (sampleBy a b c)) .answer
 unfolding answersOf asksOf answersAlone stepped startOf
-each-push bank after slot a b c r size named sound opened p =
+each-push bank after slot a b c r from size named sound opened p =
     let s = slotAt bank slot in
     let named-so = eq-eqb slot slot refl in
     let start : startOf s ≡ openWith (historyOf (feedIn s)) = when-false (isDamaged s) _ _ sound ∙ when-false (isFree s) _ _ (not-free s opened) in
     let call : Call = record { slot = slot; ask = samples a b c; answer = said r } in
     let ran : Ran bank (call ∷ []) after = goes-on {c = call} (r, p, refl) ends in
-    let rule = condition-c .as-the-rule-gives bank after _ size ran slot named in
+    let rule = condition-c .as-the-rule-gives bank after _ from size ran slot named in
     ap (λ (answers : List Said). getD answers 0 (said r)) (
     sym (when-true (eqb slot slot) (said r ∷ []) [] named-so)
     ∙ rule
     ∙ (λ i. answersAlone (start i) (cond (named-so i) (samples a b c ∷ []) []))
     )
 
-each-report : (bank after : List ℕ) (slot : ℕ) (a b c : I16) (r : Report) → Pushing bank slot (sampleBy a b c) (Reported r) after
+each-report : (bank after : List ℕ) (slot : ℕ) (a b c : I16) (r : Report) → Reached bank → Pushing bank slot (sampleBy a b c) (Reported r) after
     → saidReport r ≡ (told (historyOf (feedIn (slotAt bank slot))) (sampleBy a b c)) .answer
 unfolding pushedAt
-each-report bank after slot a b c r p = go (through (pushRefusals bank slot))
+each-report bank after slot a b c r from p = go (through (pushRefusals bank slot))
   where
     go : Through (pushRefusals bank slot) → saidReport r ≡ (told (historyOf (feedIn (slotAt bank slot))) (sampleBy a b c)) .answer
     go (met n d) =
@@ -71,7 +72,7 @@ each-report bank after slot a b c r p = go (through (pushRefusals bank slot))
         let size = eqb-true (length bank) 4096 (not-false _ (q .0)) in
         let named = ltb-false 15 slot (q .1 .0) in
         let opened = is-open (slotAt bank slot) (slot-length bank slot size named) (q .1 .1 .0) (q .1 .1 .1 .0) in
-        each-push bank after slot a b c (Reported r) size named (q .1 .1 .0) opened p
+        each-push bank after slot a b c (Reported r) from size named (q .1 .1 .0) opened p
 
 each-run : (a b c : List ℤ) (centre nominal : ℕ) (f : Figures) → RunMeasuring a b c centre nominal (Given f) → f ≡ figuresAt threePhase (nominalOf nominal) (sampleAt a b c) centre
 unfolding measured

@@ -8,6 +8,7 @@ use Rattle.acceptance.specs.Alone.{startOf}
 use Rattle.acceptance.specs.ConditionC.{ConditionC}
 use Rattle.acceptance.proofs.Numbered.{same-samples}
 use Rattle.acceptance.proofs.OnSlot.{unnamed}
+use Rattle.acceptance.proofs.Reached.{kept-true}
 use Rattle.acceptance.proofs.Shows.{start-shown}
 use Rattle.acceptance.proofs.Order.{saidAlone, slotAlone, length-after, slot-goes-alone, answers-go-alone, alone-as-told}
 
@@ -27,7 +28,8 @@ condition-c = record {
   no-feed = λ bank now next calls slot ask answer size ran h p.
       let o = unnamed slot ask now next answer (length-after ran size) p h in
       (ap (λ (x : Outcome). x .answer) o, ap (λ (x : Outcome). x .bank) o);
-  as-the-rule-gives = λ bank end calls size ran k h.
+  as-the-rule-gives = λ bank end calls r size ran k h.
       let w = slot-length bank k size h in
-      answers-go-alone k h ran size ∙ alone-as-told _ (slotAt bank k) (startOf (slotAt bank k)) w (start-shown (slotAt bank k) w);
+      answers-go-alone k h ran size
+      ∙ alone-as-told _ (slotAt bank k) (startOf (slotAt bank k)) w (start-shown (slotAt bank k) w (kept-true .reached bank r k h));
 }

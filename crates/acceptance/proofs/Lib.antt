@@ -6,6 +6,7 @@ pub mod ConditionC
 pub mod ConditionD
 pub mod SentBack
 pub mod Salvage
+pub mod Reached
 pub mod DeadFeeder
 pub mod Figures
 pub mod Document
@@ -15,4 +16,6 @@ pub mod Refusing
 pub mod Numbered
 pub mod OnSlot
 pub mod Order
+pub mod Lasting
+pub mod Mended
 pub mod Shows

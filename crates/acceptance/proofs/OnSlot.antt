@@ -4,12 +4,12 @@ use mathlib.Core.Bool.{Bool, true, false, not, cond}
 use mathlib.Core.List.{List, [], _∷_}
 use Prim.Native.Nat.{ℕ, _≤_, _<_}
 use lib.ListN.{length}
-use borrow.Author.Tests.{eq-eqb, le-ltb, lt-ltb}
+use borrow.Author.Tests.{eq-eqb, ne-eqb, le-ltb, lt-ltb}
 use Rattle.refusals.specs.Refusals.{Refusal, unlessRefused}
 use Rattle.refusals.proofs.Passing.{pass, stop}
 use Rattle.feed.specs.declared.Feed.{Feed}
 use Rattle.feed.specs.Answers.{Said, refused, done}
-use Rattle.feed.specs.History.{answered}
+use Rattle.feed.specs.Kept.{answeredFrom}
 use Rattle.feed.specs.Ring.{opened, stored, historyOf}
 use Rattle.bank.specs.Slot.{slotAt, withSlot, feedIn, slotOf, freeSlot}
 use Rattle.bank.specs.Calls.{Outcome, refusing, wrongLength, noSlot, slotDamaged, openOfOpen, onFree, endOfTimeIn, openedAt, pushedAt, closedAt}
@@ -35,7 +35,7 @@ abbrev pub slotGrant : Ask → List ℕ → Left
 slotGrant (opens nominal rate soc) s = record { answer = done; slot = slotOf (opened nominal rate soc) }
 slotGrant (samples a b c) s =
     let next : Feed = stored (feedIn s) (sampleBy a b c) in
-    record { answer = answered (historyOf next); slot = slotOf next }
+    record { answer = answeredFrom (historyOf next) (next .kept); slot = slotOf next }
 slotGrant closes s = record { answer = done; slot = freeSlot }
 
 unfoldable pub onSlot : Ask → List ℕ → Left
@@ -70,6 +70,14 @@ unfolding openedAt pushedAt closedAt
 promised-is slot (opens nominal rate soc) bank next answer p = said-so _ next (p .2) ∙ p .1
 promised-is slot (samples a b c) bank next answer p = said-so _ next (p .2) ∙ p .1
 promised-is slot closes bank next answer p = said-so _ next (p .2) ∙ p .1
+
+-- a bank of another length is refused 1, and nothing changes
+pub outside : (slot : ℕ) (ask : Ask) (bank next : List ℕ) (answer : Said) → (length bank ≡ 4096 → ⊥) → Promised slot ask bank answer next → next ≡ bank
+outside slot ask bank next answer d p =
+    ap (λ (o : Outcome). o .bank)
+    (promised-is slot ask bank next answer p
+    ∙ stop (wrongLength bank) (noSlot slot ∷ slotRefusals ask (slotAt bank slot)) (refusing bank) (put bank slot (slotGrant ask (slotAt bank slot)))
+    (ap not (ne-eqb (length bank) 4096 d)))
 
 module _ (slot : ℕ) (ask : Ask) (bank next : List ℕ) (answer : Said) (size : length bank ≡ 4096) (p : Promised slot ask bank answer next) where
   abbrev rest : List Refusal

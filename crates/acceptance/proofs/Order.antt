@@ -11,9 +11,10 @@ use Rattle.bank.specs.Slot.{slotAt, withSlot}
 use Rattle.bank.specs.Calls.{Outcome}
 use Rattle.bank.proofs.Slots.{slot-length, length-kept, same-slot, other-slot}
 use Rattle.acceptance.specs.Runs.{Ask, Call, Promised, Ran, ends, goes-on, asksOf, answersOf}
-use Rattle.acceptance.specs.Alone.{State, stepped, startOf, answersAlone}
+use Rattle.acceptance.specs.Alone.{State, stepped, answersAlone}
 use Rattle.acceptance.proofs.OnSlot.{Left, onSlot, put, unnamed, named}
-use Rattle.acceptance.proofs.Shows.{Shows, start-shown, step-goes}
+use Rattle.acceptance.proofs.Lasting.{stays-whole}
+use Rattle.acceptance.proofs.Shows.{Shows, step-goes}
 
 -- one slot by itself: what it is answered, and its bytes at the end
 unfoldable pub saidAlone : List ℕ → List Ask → List Said
@@ -24,10 +25,6 @@ unfoldable pub slotAlone : List ℕ → List Ask → List ℕ
 slotAlone s [] = s
 slotAlone s (ask ∷ asks) = slotAlone ((onSlot ask s) .slot) asks
 
--- a slot stays whole
-pub stays-whole : (ask : Ask) (s : List ℕ) → length s ≡ 256 → length ((onSlot ask s) .slot) ≡ 256
-stays-whole ask s w = (step-goes ask s (startOf s) w (start-shown s w)) .whole
-
 -- ---- one call
 
 module _ (c : Call) (bank next : List ℕ) (size : length bank ≡ 4096) (p : Promised (c .slot) (c .ask) bank (c .answer) next) where
@@ -35,7 +32,7 @@ module _ (c : Call) (bank next : List ℕ) (size : length bank ≡ 4096) (p : Pr
   left = onSlot (c .ask) (slotAt bank (c .slot))
 
   left-whole : c .slot ≤ 15 → length (left .slot) ≡ 256
-  left-whole h = stays-whole (c .ask) (slotAt bank (c .slot)) (slot-length bank (c .slot) size h)
+  left-whole h = stays-whole (slotAt bank (c .slot)) (slot-length bank (c .slot) size h) (c .ask)
 
   is-named : c .slot ≤ 15 → record { answer = c .answer; bank = next } ≡ put bank (c .slot) left
   is-named h = named (c .slot) (c .ask) bank next (c .answer) size p h

@@ -11,13 +11,14 @@ use Rattle.bits.specs.Bits.{signedIn, bits16}
 use Rattle.sampling.specs.Tags.{servedRate, keptRate}
 use Rattle.model.specs.Filter.{weight, offset, phaseSum, term, weighted, positive}
 use Rattle.model.specs.Angle.{arctan, scaled, turned, step, steps, noPhase, phaseAngle, phaseOf}
-use Rattle.model.specs.Report.{secondDifference, differences, over, joined, phaseAt, figuresAt}
+use Rattle.model.specs.Report.{secondDifference, differences, over, joined, phaseAt, figuresAt, figuresWith}
 use Rattle.feed.specs.Answers.{Said, refused, done, taken, takenWith, tagged}
 use Rattle.feed.specs.Places.{zeros, sampleOf, placeOf, samplesOf, withPlace}
-use Rattle.feed.specs.History.{isDue, reportAt, answered}
-use Rattle.feed.specs.Ring.{unserved, uneven, early, faulty, opened, nextHead, stored, historyOf, Next, pushed}
-use Rattle.bank.specs.Slot.{slotAt, withSlot, headIn, headBytes, placesIn, tailIn, tailOf, feedIn, slotOf, freeSlot}
-use Rattle.bank.specs.Damage.{blank, stray, isDamaged}
+use Rattle.feed.specs.History.{isDue}
+use Rattle.feed.specs.Kept.{phaseBack, phasesOf, reportFrom, answeredFrom}
+use Rattle.feed.specs.Ring.{unserved, uneven, early, faulty, opened, nextHead, stored, historyOf, Next, pushed, workedOut}
+use Rattle.bank.specs.Slot.{slotAt, withSlot, headIn, headBytes, placesIn, keptIn, keptBytes, tailIn, tailOf, feedIn, slotOf, freeSlot}
+use Rattle.bank.specs.Damage.{blank, flagOver, stray, isDamaged}
 use Rattle.bank.specs.Calls.{Outcome, cleared, openedAt, pushedAt, closedAt}
 use Rattle.salvage.specs.Image.{salvaged, Outcome as Salvage, Said as SalvageSaid, refused as salvageRefused, mended, said as salvageSaid}
 use Rattle.runs.specs.Runs.{measured, Said as RunSaid, refused as runRefused, figures}
@@ -86,7 +87,7 @@ same-size : {x y z : ℤ} → x ≡ y → x ≡ z → natAbs y ≡ natAbs z
 same-size p q = ap natAbs (sym p ∙ q)
 
 refuses-everything : RefusesEverything
-unfolding cleared openedAt pushedAt closedAt salvaged slotAt withSlot headIn headBytes placesIn tailIn tailOf feedIn slotOf freeSlot blank stray isDamaged unserved uneven early faulty opened nextHead stored historyOf pushed zeros servedRate keptRate sampleOf placeOf samplesOf withPlace signedIn bits16 isDue answered measured judgement errorsOf verdictOn isMark versionIn socIn headed checksum afterByte divided figureAt deviceIn apart agrees reading sum weight offset phaseSum term weighted positive arctan scaled turned step steps noPhase phaseAngle phaseOf secondDifference differences joined phaseAt figuresAt tagged reportAt
+unfolding cleared openedAt pushedAt closedAt salvaged slotAt withSlot headIn headBytes placesIn keptIn keptBytes tailIn tailOf feedIn slotOf freeSlot blank flagOver stray isDamaged unserved uneven early faulty opened nextHead stored historyOf pushed zeros servedRate keptRate sampleOf placeOf samplesOf withPlace signedIn bits16 isDue phaseBack phasesOf reportFrom answeredFrom figuresWith workedOut measured judgement errorsOf verdictOn isMark versionIn socIn headed checksum afterByte divided figureAt deviceIn apart agrees reading sum weight offset phaseSum term weighted positive arctan scaled turned step steps noPhase phaseAngle phaseOf secondDifference differences joined phaseAt figuresAt tagged
 refuses-everything = record {
   clearing = λ n after p. omega (arith, answer-is p);
   opening = λ n after p. omega (arith, answer-is p);
@@ -101,7 +102,7 @@ refuses-everything = record {
 }
 
 pub useless-models : UselessModels
-unfolding openedAt pushedAt slotAt withSlot headIn headBytes placesIn tailIn tailOf feedIn slotOf blank stray isDamaged unserved uneven early faulty opened nextHead stored historyOf zeros servedRate keptRate sampleOf placeOf samplesOf withPlace signedIn bits16 sum weight offset phaseSum term weighted positive arctan scaled turned step steps noPhase phaseAngle phaseOf secondDifference differences joined phaseAt figuresAt tagged isDue reportAt answered
+unfolding openedAt pushedAt slotAt withSlot headIn headBytes placesIn keptIn keptBytes tailIn tailOf feedIn slotOf blank flagOver stray isDamaged unserved uneven early faulty opened nextHead stored historyOf zeros servedRate keptRate sampleOf placeOf samplesOf withPlace signedIn bits16 sum weight offset phaseSum term weighted positive arctan scaled turned step steps noPhase phaseAngle phaseOf secondDifference differences joined phaseAt figuresAt tagged isDue phaseBack phasesOf reportFrom answeredFrom figuresWith workedOut
 useless-models = record {
   refuses-everything = refuses-everything;
   fixed-report = λ r after after′ p q.
@@ -118,7 +119,7 @@ useless-models = record {
 }
 
 pub slips : Slips
-unfolding openedAt pushedAt closedAt slotAt withSlot headIn headBytes placesIn tailIn tailOf feedIn slotOf freeSlot blank stray isDamaged unserved uneven early faulty opened nextHead stored historyOf zeros servedRate keptRate sampleOf placeOf samplesOf withPlace signedIn bits16 sum weight offset phaseSum term weighted positive arctan scaled turned step steps noPhase phaseAngle phaseOf secondDifference differences joined phaseAt figuresAt tagged isDue reportAt answered measured over ofInt div toBits
+unfolding openedAt pushedAt closedAt slotAt withSlot headIn headBytes placesIn keptIn keptBytes tailIn tailOf feedIn slotOf freeSlot blank flagOver stray isDamaged unserved uneven early faulty opened nextHead stored historyOf zeros servedRate keptRate sampleOf placeOf samplesOf withPlace signedIn bits16 sum weight offset phaseSum term weighted positive arctan scaled turned step steps noPhase phaseAngle phaseOf secondDifference differences joined phaseAt figuresAt tagged isDue phaseBack phasesOf reportFrom answeredFrom figuresWith workedOut measured over ofInt div toBits
 slips = record {
   negative-sequence = λ r p q. let e = ap (λ (s : RunSaid). natAbs (runRe s)) (sym p ∙ q) in omega (arith, e);
   not-wrapped = λ f p q. let e = ap (toBits binary64) (sym (ap runDeviation p) ∙ q) in omega (arith, e);

@@ -7,20 +7,20 @@ use native.Mathlib.Omega.{arith}
 use lib.Dec.{eqb}
 use lib.ListN.{length, getD-replicate}
 use borrow.Author.Tests.{eqb-true, eq-eqb, not-false}
-use Rattle.bank.specs.Slot.{slotAt}
-use Rattle.bank.specs.Damage.{isDamaged, onlyStray}
+use Rattle.bank.specs.Slot.{slotAt, TrueIn}
+use Rattle.bank.specs.declared.damage.Damage.{Damage}
+use Rattle.bank.specs.Damage.{isDamaged, damageOf}
 use Rattle.bank.proofs.Lent.{pass}
 use Rattle.bank.proofs.Slots.{slot-length}
-use Rattle.salvage.specs.declared.Fate.{Fate}
 use Rattle.salvage.specs.declared.MendedSlot.{MendedSlot}
-use Rattle.salvage.specs.Slots.{fateOf, trimmed, leftBy, mendedSlot, differing, unaltered, told}
+use Rattle.salvage.specs.Slots.{fateBy, leftBy, mendedSlot, differing, unaltered, told}
 use Rattle.salvage.specs.Image.{mendedImage, toldOf, refused, mended, ended, said, allSound, Outcome, refusing, granted, salvaged}
-use Rattle.salvage.proofs.Fates.{stays, trims, closes, stray-held}
-use Rattle.salvage.proofs.Trims.{numbers-stay, filled-stay, unfilled-zero, tail-zero}
+use Rattle.salvage.proofs.Fates.{is-stray, is-other}
 use Rattle.salvage.proofs.Counts.{differing-most}
-use Rattle.salvage.proofs.Slots.{left-by, sound-stays, sound-told, mended-sound}
+use Rattle.salvage.proofs.Slots.{left-by, sound-stays, sound-told, mended-sound, mended-true}
 use Rattle.salvage.proofs.Images.{mended-whole, mended-at, is-mended, said-at, is-each}
-use Rattle.acceptance.specs.Salvage.{Mends, saidAt, OfEachSlot, SetToZero, Salvage}
+use Rattle.acceptance.specs.Salvage.{Mends, saidAt, OfEachSlot, SetToZero, WorkedOut, Salvage}
+use Rattle.acceptance.proofs.Mended.{set-to-zero, untrue}
 
 -- slot by slot
 record Slotwise (image : List ℕ) (slots : List MendedSlot) (after : List ℕ) : Type 0 where
@@ -49,38 +49,36 @@ slotwise {image} {after} {slots} m = go (not (eqb (length image) 4096)) refl (m 
           tells = λ k h. ap (λ (l : List MendedSlot). saidAt l k) (sym each) ∙ said-at told image _ k h;
         }
 
--- what is left of a slot of a fate, and that fate is said
-fated : {image after : List ℕ} {slots : List MendedSlot} {fate : Fate} → Mends image slots after → (k : ℕ) → k ≤ 15 → fateOf (slotAt image k) ≡ fate
-    → (slotAt after k ≡ leftBy fate (slotAt image k)) × (saidAt slots k .fate ≡ fate)
+-- what is left of a slot so damaged, and what is said to become of it
+damaged-so : {image after : List ℕ} {slots : List MendedSlot} {damage : Damage} → Mends image slots after → (k : ℕ) → k ≤ 15 → damageOf (slotAt image k) ≡ damage
+    → (slotAt after k ≡ leftBy damage (slotAt image k))
+    × (saidAt slots k .fate ≡ fateBy damage (not (eqb (differing (slotAt image k) (mendedSlot (slotAt image k))) 0)))
 unfolding told
-fated {image} m k h e =
+damaged-so {image} m k h e =
     let w = slotwise m in
-    (w .leaves k h ∙ left-by (slotAt image k) e, ap (λ (s : MendedSlot). s .fate) (w .tells k h) ∙ e)
+    let s = slotAt image k in
+    (w .leaves k h ∙ left-by s e, ap (λ (t : MendedSlot). t .fate) (w .tells k h) ∙ ap (λ (d : Damage). fateBy d (not (eqb (differing s (mendedSlot s)) 0))) e)
 
 none-damaged : OfEachSlot (λ before told after. isDamaged after ≡ false)
 none-damaged image slots after m k h =
     let w = slotwise m in
     ap isDamaged (w .leaves k h) ∙ mended-sound (slotAt image k) (slot-length image k (w .whole) h)
 
-trimmed-so : (s : List ℕ) → length s ≡ 256 → onlyStray s ≡ true → SetToZero s (trimmed s)
-trimmed-so s size e =
-    let held = stray-held s e in
-    record {
-      numbers = numbers-stay s size held;
-      filled = filled-stay s size held;
-      unfilled = unfilled-zero s size held;
-      after-196 = tail-zero s size held;
-    }
+all-true : OfEachSlot (λ before told after. TrueIn after)
+all-true image slots after m k h =
+    let w = slotwise m in
+    subst TrueIn (sym (w .leaves k h)) (mended-true (slotAt image k) (slot-length image k (w .whole) h))
 
--- an image with no damaged slot is mended into itself, and each slot is said to be sound
-module _ (image : List ℕ) (whole : length image ≡ 4096) (sound : (k : ℕ) → k ≤ 15 → isDamaged (slotAt image k) ≡ false) where
+-- an image whose slots are sound is mended into itself, and each slot is said to be sound
+module _ (image : List ℕ) (whole : length image ≡ 4096) (sound : (k : ℕ) → k ≤ 15 → isDamaged (slotAt image k) ≡ false)
+    (true-all : (k : ℕ) → k ≤ 15 → TrueIn (slotAt image k)) where
   stays-so : mendedImage image ≡ image
-  stays-so = sym (is-mended image whole image whole (λ k h. sym (sound-stays (slotAt image k) (sound k h))))
+  stays-so = sym (is-mended image whole image whole (λ k h. sym (sound-stays (slotAt image k) (slot-length image k whole h) (sound k h) (true-all k h))))
 
   said-sound : toldOf image ≡ allSound
   said-sound =
       sym (is-each told image unaltered allSound refl
-      (λ k h. getD-replicate 16 k _ _ (omega arith) ∙ sym (sound-told (slotAt image k) (sound k h))))
+      (λ k h. getD-replicate 16 k _ _ (omega arith) ∙ sym (sound-told (slotAt image k) (slot-length image k whole h) (sound k h) (true-all k h))))
 
 pub salvage-holds : Salvage
 unfolding leftBy told salvaged
@@ -90,10 +88,21 @@ salvage-holds = record {
       record { answer = r; promised = p; says = λ i. ended (e i .answer .ending) (r .slots) };
   stray-trimmed = λ image slots after m k h e.
       let s = slotAt image k in
-      let f = fated m k h (trims s e) in
-      (subst (λ (t : List ℕ). SetToZero s t) (sym (f .0)) (trimmed-so s (slot-length image k (slotwise m .whole) h) e), f .1);
-  others-closed = λ image slots after m k h d e. fated m k h (closes (slotAt image k) d e);
-  sound-stay = λ image slots after m k h e. fated m k h (stays (slotAt image k) e);
+      let f = damaged-so m k h (is-stray s e) in
+      (subst (λ (t : List ℕ). SetToZero s t) (sym (f .0)) (set-to-zero s (slot-length image k (slotwise m .whole) h) e), f .1);
+  others-closed = λ image slots after m k h d e. damaged-so m k h (is-other (slotAt image k) d e);
+  sound-stay = λ image slots after m k h e t.
+      let w = slotwise m in
+      let s = slotAt image k in
+      let size = slot-length image k (w .whole) h in
+      (w .leaves k h ∙ sound-stays s size e t, ap (λ (x : MendedSlot). x .fate) (w .tells k h ∙ sound-told s size e t));
+  untrue-trimmed = λ image slots after m k h e t.
+      let w = slotwise m in
+      let s = slotAt image k in
+      let u = untrue s (slot-length image k (w .whole) h) e t in (
+        subst (λ (r : List ℕ). WorkedOut s r) (sym (w .leaves k h)) (u .0),
+        ap (λ (x : MendedSlot). x .fate) (w .tells k h) ∙ u .1,
+      );
   counts = λ image slots after m k h.
       let w = slotwise m in
       let s = slotAt image k in
@@ -106,10 +115,11 @@ salvage-holds = record {
       let v = slotwise n in
       (w .leaves k h ∙ ap mendedSlot e ∙ sym (v .leaves j l), w .tells k h ∙ ap told e ∙ sym (v .tells j l));
   none-damaged = none-damaged;
+  all-true = all-true;
   again = λ image slots after m r last p.
       let whole = slotwise m .whole-after in
       let e = p ∙ pass _ (granted after) (ap not (eq-eqb _ _ whole)) in (
-        ap (λ (o : Outcome). o .image) e ∙ stays-so after whole (none-damaged image slots after m),
-        ap (λ (o : Outcome). said (o .answer)) e ∙ ap mended (said-sound after whole (none-damaged image slots after m)),
+        ap (λ (o : Outcome). o .image) e ∙ stays-so after whole (none-damaged image slots after m) (all-true image slots after m),
+        ap (λ (o : Outcome). said (o .answer)) e ∙ ap mended (said-sound after whole (none-damaged image slots after m) (all-true image slots after m)),
       );
 }

@@ -10,16 +10,18 @@ use Rattle.model.specs.declared.filter.Sample.{Sample}
 use Rattle.feed.specs.declared.Feed.{Feed}
 use Rattle.sampling.specs.Tags.{servedNominal, servedRate}
 use Rattle.feed.specs.Answers.{done}
-use Rattle.feed.specs.History.{History, opening, grown, answered, told}
+use Rattle.feed.specs.History.{History, opening, grown, told}
+use Rattle.feed.specs.Kept.{answeredFrom}
 use Rattle.feed.specs.Ring.{opened, stored, historyOf, endOfTimeOf}
 use Rattle.sampling.proofs.Rates.{kept-served}
 use Rattle.feed.proofs.Stored.{Fits16}
 use Rattle.feed.proofs.Alike.{told-last, told-on}
 use Rattle.feed.proofs.Meeting.{Keeps, held-kept, opening-kept, last-same, answer-kept, stored-kept}
-use Rattle.bank.specs.Slot.{stateIn, headIn, feedIn, slotOf}
+use Rattle.bank.specs.Slot.{stateIn, headIn, feedIn, slotOf, TrueIn}
 use Rattle.bank.specs.Damage.{isFree, isOpen, isDamaged}
 use Rattle.bank.proofs.Keeping.{Kept, feed-back, slot-whole, slot-open, kept-undamaged, free-undamaged, free-is-free, free-whole, is-open, open-kept}
 use Rattle.bank.proofs.KeptOn.{opened-kept, stored-kept as kept-on}
+use Rattle.bank.proofs.Angles.{true-feed}
 use Rattle.acceptance.specs.Runs.{Ask, opens, samples, closes, sampleBy}
 use Rattle.acceptance.specs.Alone.{State, damaged, free, openWith, Step, refusing, stepped, startOf}
 use Rattle.acceptance.proofs.OnSlot.{Left, leaving, onSlot}
@@ -37,16 +39,16 @@ pub record Goes (l : Left) (t : Step) : Type 0 where
 
 -- ---- the start
 
-pub start-shown : (s : List ℕ) → length s ≡ 256 → Shows s (startOf s)
+pub start-shown : (s : List ℕ) → length s ≡ 256 → TrueIn s → Shows s (startOf s)
 unfolding startOf
-start-shown s w = go (isDamaged s) refl (isFree s) refl
+start-shown s w t = go (isDamaged s) refl (isFree s) refl
   where
     go : (d : Bool) → isDamaged s ≡ d → (f : Bool) → isFree s ≡ f → Shows s (cond d damaged (cond f free (openWith (historyOf (feedIn s)))))
     go true d f e = spoilt d
     go false d true e = empty d e
     go false d false e =
         let k = open-kept s w d e in
-        keeping d e (held-kept (feedIn s) (k .faultless) (k .whole))
+        keeping d e (held-kept (feedIn s) (k .faultless) (k .whole) (true-feed s (eqb-true (stateIn s) 1 (is-open s w d e)) t))
 
 -- ---- what a call leaves
 
@@ -94,7 +96,7 @@ module _ (s : List ℕ) (w : length s ≡ 256) where
   module _ (d : isDamaged s ≡ false) (e : isFree s ≡ false) (h : History) (k : Keeps (feedIn s) h) where
     pushed-goes : (x : Sample) → Fits16 x → (b : Bool) → (endOfTimeOf (headIn s)) .due ≡ b
         → Goes
-        (cond b (leaving s 8) (record { answer = answered (historyOf (stored (feedIn s) x)); slot = slotOf (stored (feedIn s) x) }))
+        (cond b (leaving s 8) (record { answer = answeredFrom (historyOf (stored (feedIn s) x)) (stored (feedIn s) x .kept); slot = slotOf (stored (feedIn s) x) }))
         (record { answer = (told h x) .answer; next = openWith ((told h x) .history) })
     unfolding feedIn
     pushed-goes x fits true t = rw (told-last h x (last-same (feedIn s) h k ∙ t)) (stays s (openWith h) w (keeping d e k) 8)

@@ -6,9 +6,9 @@ use Rattle.sampling.proofs.Unique.{nominal-sampling-unique, served-nominal-uniq
 use Rattle.header.proofs.Unique.{read-header-unique}
 use Rattle.text.proofs.Unique.{put-unique, put-hex-unique}
 use Rattle.model.specs.Filter.{lentSamples}
-use Rattle.model.proofs.Unique.{measure-unique}
-use Rattle.feed.proofs.Unique.{head-is-faulty-unique, feed-open-unique, feed-push-unique, sample-of-unique, place-of-unique}
-use Rattle.bank.proofs.Unique.{clear-unique, open-unique, push-unique, close-unique, damage-of-unique}
+use Rattle.model.proofs.Unique.{measure-unique, newest-phase-unique, phases-of-unique, measure-kept-unique}
+use Rattle.feed.proofs.Unique.{head-is-faulty-unique, feed-open-unique, feed-push-unique, feed-worked-out-unique, sample-of-unique, place-of-unique}
+use Rattle.bank.proofs.Unique.{clear-unique, open-unique, push-unique, close-unique, damage-of-unique, worked-out-unique}
 use Rattle.salvage.proofs.Unique.{mend-unique}
 use Rattle.runs.proofs.Unique.{measure-unique as run-unique}
 use Rattle.verdict.proofs.Unique.{judge-unique}
@@ -63,6 +63,15 @@ tied = record {
   model-measure-asks-nothing = λ κs a. tt;
   model-measure-says = λ κs a r s p. p;
   model-measure-unique = λ κs a r q s t. measure-unique (lentSamples 31 (now (a .0))) (a .1 .0) (a .1 .1 .0) r q;
+  model-measure-kept-asks-nothing = λ κs a. tt;
+  model-measure-kept-says = λ κs a r s p. p;
+  model-measure-kept-unique = λ κs a r q s t. measure-kept-unique (lentSamples 31 (now (a .0))) (a .1 .0) (a .1 .1 .0) (a .1 .1 .1 .0) r q;
+  model-newest-phase-asks-nothing = λ κs a. tt;
+  model-newest-phase-says = λ κs a r s p. p;
+  model-newest-phase-unique = λ κs a r q s t. newest-phase-unique (lentSamples 31 (now (a .0))) (a .1 .0) r q;
+  model-phases-of-asks-nothing = λ κs a. tt;
+  model-phases-of-says = λ κs a r s p. p;
+  model-phases-of-unique = λ κs a r q s t. phases-of-unique (lentSamples 31 (now (a .0))) (a .1 .0) r q;
   feed-head-is-faulty-asks-nothing = λ κs a. tt;
   feed-head-is-faulty-says = λ κs a r s p. p;
   feed-head-is-faulty-unique = λ κs a r q s t. head-is-faulty-unique (a .0) r q;
@@ -72,6 +81,9 @@ tied = record {
   feed-feed-push-asks-nothing = λ κs a. tt;
   feed-feed-push-says = λ κs a r s p. p;
   feed-feed-push-unique = λ κs a r q s t. feed-push-unique (a .0) (a .1 .0) r q;
+  feed-feed-worked-out-asks-nothing = λ κs a. tt;
+  feed-feed-worked-out-says = λ κs a r s p. p;
+  feed-feed-worked-out-unique = λ κs a r q s t. feed-worked-out-unique (a .0) r q;
   feed-sample-of-asks-nothing = λ κs a. tt;
   feed-sample-of-says = λ κs a r s p. p;
   feed-sample-of-unique = λ κs a r q s t. sample-of-unique (a .0) r q;
@@ -93,6 +105,9 @@ tied = record {
   bank-damage-of-asks-nothing = λ κs a. tt;
   bank-damage-of-says = λ κs a r s p. p;
   bank-damage-of-unique = λ κs a r q s t. damage-of-unique (a .0) r q;
+  bank-worked-out-asks-nothing = λ κs a. tt;
+  bank-worked-out-says = λ κs a r s p. p;
+  bank-worked-out-unique = λ κs a r q s t. worked-out-unique (a .0) r q;
   salvage-mend-asks-nothing = λ κs a. tt;
   salvage-mend-says = λ κs a r s p. p;
   salvage-mend-unique = λ κs a r q s t. mend-unique (now (a .0)) r q (now (s .0)) (now (t .0));

@@ -23,17 +23,18 @@ use Rattle.runs.specs.Runs.{sampleAt, RunMeasuring}
 use Rattle.runs.specs.Feeds.{Holding, SameMeasurement}
 use Rattle.phs.specs.Cut.{EveryCut}
 use Rattle.acceptance.specs.Runs.{I16, sampleBy}
+use Rattle.acceptance.specs.Reached.{Reached}
 use Rattle.acceptance.specs.Within.{WithinLimits}
 
--- demand 2
+-- demand 2; its first sentence is read for reached banks (CR 6)
 pub record ConditionB : Type 0 where
   -- "Each report holds the positive sequence, frequency, rate of change of frequency and UTC tag that the class P model .. gives":
   -- a report that a push gives is the history rule's, for the samples held and this one
-  pub each-report : (bank after : List ℕ) (slot : ℕ) (a b c : I16) (r : Report) → Pushing bank slot (sampleBy a b c) (Reported r) after
+  pub each-report : (bank after : List ℕ) (slot : ℕ) (a b c : I16) (r : Report) → Reached bank → Pushing bank slot (sampleBy a b c) (Reported r) after
       → saidReport r ≡ (told (historyOf (feedIn (slotAt bank slot))) (sampleBy a b c)) .answer
   -- and no report is left out: a push to an open slot that is not damaged is answered what the history rule says.
   -- Over whole runs of calls condition C says the same of every feed
-  pub each-push : (bank after : List ℕ) (slot : ℕ) (a b c : I16) (r : Answer) → length bank ≡ 4096 → slot ≤ 15
+  pub each-push : (bank after : List ℕ) (slot : ℕ) (a b c : I16) (r : Answer) → Reached bank → length bank ≡ 4096 → slot ≤ 15
       → isDamaged (slotAt bank slot) ≡ false → isOpen (slotAt bank slot) ≡ true → Pushing bank slot (sampleBy a b c) r after
       → said r ≡ (told (historyOf (feedIn (slotAt bank slot))) (sampleBy a b c)) .answer
   -- "Index 0 of the opening second is never reported": a report's centre is 15 or more after the first sample

@@ -6,6 +6,7 @@ use lib.ListN.{length}
 use Rattle.feed.specs.Answers.{Said, refused}
 use Rattle.bank.specs.Slot.{slotAt}
 use Rattle.acceptance.specs.Runs.{I16, Ask, samples, Call, Promised, Ran, asksOf, answersOf}
+use Rattle.acceptance.specs.Reached.{Reached}
 use Rattle.acceptance.specs.Alone.{startOf, answersAlone}
 
 -- "Take two runs of opens, samples and closes that start from the same bank bytes, of the proper length, with no clearing among them"
@@ -31,6 +32,6 @@ pub record ConditionC : Type 0 where
       → length bank ≡ 4096 → Ran bank calls between → 15 < slot → Promised slot ask between answer after → (answer ≡ refused 2) × (after ≡ between)
   -- "In each run a feed's reports are those that condition B's rule gives for the samples it has taken since its latest opening,
   -- those held at the start included until it is closed, as if the other fifteen didn't exist": all that a feed is answered,
-  -- its reports among it
-  pub as-the-rule-gives : (bank end : List ℕ) (calls : List Call) → length bank ≡ 4096 → Ran bank calls end
+  -- its reports among it. It is read for reached banks (CR 6)
+  pub as-the-rule-gives : (bank end : List ℕ) (calls : List Call) → Reached bank → length bank ≡ 4096 → Ran bank calls end
       → (feed : ℕ) → feed ≤ 15 → answersOf feed calls ≡ answersAlone (startOf (slotAt bank feed)) (asksOf feed calls)

@@ -2,11 +2,12 @@
 pub mod ConditionA
 pub mod Within
 pub mod Runs
+pub mod Salvage
+pub mod Reached
 pub mod ConditionB
 pub mod Alone
 pub mod ConditionC
 pub mod ConditionD
-pub mod Salvage
 pub mod DeadFeeder
 pub mod Figures
 pub mod Document

@@ -22,7 +22,8 @@ use Rattle.feed.specs.declared.Answer.{Answer}
 use Rattle.feed.specs.declared.Answer.the-variants.{Refused, Taken, Reported}
 use Rattle.feed.specs.declared.Report.{Report}
 use Rattle.feed.specs.Places.{zeros}
-use Rattle.feed.specs.Ring.{opened, Pushing as FeedPushing}
+use Rattle.feed.specs.Kept.{zeroPhases}
+use Rattle.feed.specs.Ring.{opened, workedOut, Pushing as FeedPushing}
 use Rattle.bank.specs.declared.Settled.the-variants.{Refused as SettledRefused, Done}
 use Rattle.bank.specs.Slot.{slotAt, withSlot, slotOf}
 use Rattle.bank.specs.Calls.{Clearing, Opening, Pushing, Closing}
@@ -52,9 +53,13 @@ blankBank = zeros 4096
 abbrev pub openBank : ℕ → List ℕ
 openBank slot = withSlot blankBank slot (slotOf (opened 60 60 1000))
 
--- a feed that holds thirty samples, of these bytes: a report comes with the next one
+-- a feed that holds thirty samples, of these bytes, and their angles: a report comes with the next one
 abbrev pub thirtyHeld : List ℕ → Feed
-thirtyHeld samples = record { head = record { nominal = 60; rate = 60; held = 30; soc = 1000; index = 30; place = 30 }; places = samples ++ zeros 6 }
+thirtyHeld samples = workedOut (record {
+  head = record { nominal = 60; rate = 60; held = 30; soc = 1000; index = 30; place = 30 };
+  places = samples ++ zeros 6;
+  kept = zeroPhases;
+})
 
 -- a bank whose one feed, in this slot, is that
 abbrev pub heldBank : ℕ → List ℕ → List ℕ

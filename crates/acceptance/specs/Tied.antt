@@ -15,9 +15,10 @@ use Rattle.header.specs.Header.{Heading}
 use Rattle.text.specs.Text.{hexBytes}
 use Rattle.text.specs.Put.{Put, filled, roomFor}
 use Rattle.model.specs.Filter.{lentSamples}
-use Rattle.model.specs.Report.{Measuring}
+use Rattle.model.specs.Report.{Measuring, NewestPhase, ThreePhases, MeasuringKept}
 use Rattle.feed.specs.Places.{sampleOf, placeOf}
-use Rattle.feed.specs.Ring.{faulty, opened, Pushing as FeedPushing}
+use Rattle.feed.specs.Ring.{faulty, opened, workedOut, Pushing as FeedPushing}
+use Rattle.bank.specs.Slot.{workedOutIn}
 use Rattle.bank.specs.Damage.{damageOf}
 use Rattle.bank.specs.Calls.{Clearing, Opening, Pushing, Closing}
 use Rattle.salvage.specs.Image.{Mending}
@@ -39,9 +40,13 @@ use Rattle.header.proofs.«read_header».Reads as headerReads
 use Rattle.text.proofs.put.Reads as putReads
 use Rattle.text.proofs.«put_hex».Reads as putHexReads
 use Rattle.model.proofs.measure.Reads as measureReads
+use Rattle.model.proofs.«measure_kept».Reads as measureKeptReads
+use Rattle.model.proofs.«newest_phase».Reads as newestReads
+use Rattle.model.proofs.«phases_of».Reads as phasesReads
 use Rattle.feed.proofs.Head.«is_faulty».Reads as faultyReads
 use Rattle.feed.proofs.Feed.open.Reads as feedOpenReads
 use Rattle.feed.proofs.Feed.push.Reads as feedPushReads
+use Rattle.feed.proofs.Feed.«worked_out».Reads as feedWorkedReads
 use Rattle.feed.proofs.«sample_of».Reads as sampleOfReads
 use Rattle.feed.proofs.«place_of».Reads as placeOfReads
 use Rattle.bank.proofs.clear.Reads as clearReads
@@ -49,6 +54,7 @@ use Rattle.bank.proofs.open.Reads as openReads
 use Rattle.bank.proofs.push.Reads as pushReads
 use Rattle.bank.proofs.close.Reads as closeReads
 use Rattle.bank.proofs.«damage_of».Reads as damageReads
+use Rattle.bank.proofs.«worked_out».Reads as workedReads
 use Rattle.salvage.proofs.mend.Reads as mendReads
 use Rattle.runs.proofs.measure.Reads as runReads
 use Rattle.verdict.proofs.judge.Reads as judgeReads
@@ -130,6 +136,19 @@ pub record Tied : Type 0 where
   pub model-measure-asks-nothing : (κs : _) → AsksNothing (measureReads.Pre κs)
   pub model-measure-says : (κs : _) (a : _) (r : _) (s : _) → measureReads.Post κs a r s → Measuring (lentSamples 31 (now (a .0))) (a .1 .0) (a .1 .1 .0) r
   pub model-measure-unique : (κs : _) → OneAnswer (measureReads.Post κs)
+  -- `measure_kept`
+  pub model-measure-kept-asks-nothing : (κs : _) → AsksNothing (measureKeptReads.Pre κs)
+  pub model-measure-kept-says : (κs : _) (a : _) (r : _) (s : _) → measureKeptReads.Post κs a r s
+      → MeasuringKept (lentSamples 31 (now (a .0))) (a .1 .0) (a .1 .1 .0) (a .1 .1 .1 .0) r
+  pub model-measure-kept-unique : (κs : _) → OneAnswer (measureKeptReads.Post κs)
+  -- `newest_phase`
+  pub model-newest-phase-asks-nothing : (κs : _) → AsksNothing (newestReads.Pre κs)
+  pub model-newest-phase-says : (κs : _) (a : _) (r : _) (s : _) → newestReads.Post κs a r s → NewestPhase (lentSamples 31 (now (a .0))) (a .1 .0) r
+  pub model-newest-phase-unique : (κs : _) → OneAnswer (newestReads.Post κs)
+  -- `phases_of`
+  pub model-phases-of-asks-nothing : (κs : _) → AsksNothing (phasesReads.Pre κs)
+  pub model-phases-of-says : (κs : _) (a : _) (r : _) (s : _) → phasesReads.Post κs a r s → ThreePhases (lentSamples 31 (now (a .0))) (a .1 .0) r
+  pub model-phases-of-unique : (κs : _) → OneAnswer (phasesReads.Post κs)
   -- ---- feed
   -- `Head::is_faulty`
   pub feed-head-is-faulty-asks-nothing : (κs : _) → AsksNothing (faultyReads.Pre κs)
@@ -143,6 +162,10 @@ pub record Tied : Type 0 where
   pub feed-feed-push-asks-nothing : (κs : _) → AsksNothing (feedPushReads.Pre κs)
   pub feed-feed-push-says : (κs : _) (a : _) (r : _) (s : _) → feedPushReads.Post κs a r s → FeedPushing (a .0) (a .1 .0) r
   pub feed-feed-push-unique : (κs : _) → OneAnswer (feedPushReads.Post κs)
+  -- `Feed::worked_out`
+  pub feed-feed-worked-out-asks-nothing : (κs : _) → AsksNothing (feedWorkedReads.Pre κs)
+  pub feed-feed-worked-out-says : (κs : _) (a : _) (r : _) (s : _) → feedWorkedReads.Post κs a r s → r ≡ workedOut (a .0)
+  pub feed-feed-worked-out-unique : (κs : _) → OneAnswer (feedWorkedReads.Post κs)
   -- `sample_of`
   pub feed-sample-of-asks-nothing : (κs : _) → AsksNothing (sampleOfReads.Pre κs)
   pub feed-sample-of-says : (κs : _) (a : _) (r : _) (s : _) → sampleOfReads.Post κs a r s → r ≡ sampleOf (a .0)
@@ -173,6 +196,10 @@ pub record Tied : Type 0 where
   pub bank-damage-of-asks-nothing : (κs : _) → AsksNothing (damageReads.Pre κs)
   pub bank-damage-of-says : (κs : _) (a : _) (r : _) (s : _) → damageReads.Post κs a r s → r ≡ damageOf (a .0)
   pub bank-damage-of-unique : (κs : _) → OneAnswer (damageReads.Post κs)
+  -- `worked_out`
+  pub bank-worked-out-asks-nothing : (κs : _) → AsksNothing (workedReads.Pre κs)
+  pub bank-worked-out-says : (κs : _) (a : _) (r : _) (s : _) → workedReads.Post κs a r s → r ≡ workedOutIn (a .0)
+  pub bank-worked-out-unique : (κs : _) → OneAnswer (workedReads.Post κs)
   -- ---- salvage
   -- `mend`
   pub salvage-mend-asks-nothing : (κs : _) → AsksNothing (mendReads.Pre κs)

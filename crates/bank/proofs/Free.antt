@@ -14,7 +14,7 @@ use Rattle.feed.specs.Answers.{done}
 use Rattle.feed.specs.Places.{zeros}
 use Rattle.feed.specs.Ring.{faulty, opened}
 use Rattle.feed.proofs.Sound.{neither}
-use Rattle.bank.specs.Slot.{withSlot, stateIn, headIn, headBytes, tailOf, slotOf, freeSlot}
+use Rattle.bank.specs.Slot.{withSlot, stateIn, headIn, headBytes, keptBytes, tailOf, slotOf, freeSlot}
 use Rattle.bank.specs.Damage.{blank, isFree, isOpen, stray, isDamaged}
 use Rattle.bank.specs.Calls.{refusing, openedAt}
 use Rattle.bank.specs.Inside.{StandsIn}
@@ -32,7 +32,7 @@ all-zero s size sound shut =
     blank-zeros s (not-false (blank s) (sym (free-damaged s free) ∙ sound)) ∙ ap zeros size
 
 laid : (nominal rate soc : ℕ) → headBytes (opened nominal rate soc .head) ++ drop 11 freeSlot ≡ slotOf (opened nominal rate soc)
-unfolding opened slotOf tailOf freeSlot zeros
+unfolding opened slotOf keptBytes tailOf freeSlot zeros
 laid nominal rate soc = refl
 
 pub opened-slot : {s : List ℕ} {f : Feed} (nominal rate soc : ℕ) → s ≡ freeSlot → f ≡ opened nominal rate soc

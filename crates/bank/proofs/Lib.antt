@@ -6,6 +6,8 @@ pub mod Parts
 pub mod Sixteen
 pub mod Keeping
 pub mod KeptOn
+pub mod Angles
+pub mod Held
 pub mod Blank
 pub mod Lent
 pub mod Found

@@ -1,6 +1,6 @@
 -- Stray bytes: the parts of a slot that the code scans are the unfilled places and the tail, and a slot with none has a tail of zeros. Assumes nothing.
 use mathlib.Core.Path.{_≡_, refl, sym, _∙_, ap}
-use mathlib.Core.Bool.{Bool, true, false, not, cond}
+use mathlib.Core.Bool.{Bool, true, false, not, cond, _||_}
 use mathlib.Core.List.{List}
 use Prim.Native.Nat.{ℕ, _+_, _-_, _*_}
 use native.Mathlib.Omega.{arith}
@@ -11,7 +11,7 @@ use borrow.Author.Tests.{ltb-true, ltb-false, not-false}
 use Rattle.feed.specs.Places.{zeros}
 use Rattle.feed.proofs.Sound.{neither}
 use Rattle.bank.specs.Slot.{headIn, placesIn, tailIn}
-use Rattle.bank.specs.Damage.{blank, stray}
+use Rattle.bank.specs.Damage.{blank, flagOver, stray}
 use Rattle.bank.proofs.Blank.{blank-zeros}
 use Rattle.bank.proofs.Slots.{drop-take}
 use Rattle.bank.proofs.Parts.{places-length}
@@ -32,12 +32,13 @@ module _ (s : List ℕ) (size : length s ≡ 256) where
           )
       go false p = let l = ltb-false held 31 p in sym (drop-of-length-le (take 186 (drop 11 s)) {i = 6 * held} (omega (arith, places-length s size)))
 
-  pub tail-scan : take 59 (drop 197 s) ≡ tailIn s
+  pub tail-scan : take 44 (drop 212 s) ≡ tailIn s
   unfolding tailIn
-  tail-scan = take-all 59 (drop 197 s) (simp length-drop (omega arith))
+  tail-scan = take-all 44 (drop 212 s) (simp length-drop (omega arith))
 
-  pub clean-tail : stray s ≡ false → tailIn s ≡ zeros 59
+  pub clean-tail : stray s ≡ false → tailIn s ≡ zeros 44
   unfolding stray tailIn
   clean-tail e =
-      let blank-tail = not-false _ (neither (not (blank (drop (6 * headIn s .held) (placesIn s)))) (not (blank (drop 197 s))) e .1) in
-      blank-zeros (drop 197 s) blank-tail ∙ ap zeros (length-drop 197 s ∙ omega arith)
+      let past-flags = neither (not (blank (drop (6 * headIn s .held) (placesIn s))) || not (blank (drop 212 s))) (flagOver s) e .0 in
+      let blank-tail = not-false _ (neither (not (blank (drop (6 * headIn s .held) (placesIn s)))) (not (blank (drop 212 s))) past-flags .1) in
+      blank-zeros (drop 212 s) blank-tail ∙ ap zeros (length-drop 212 s ∙ omega arith)

@@ -11,17 +11,18 @@ use denote.Enum.Declared.{tagOf}
 use lib.Dec.{eqb}
 use lib.ListN.{length, drop}
 use Rattle.model.specs.declared.filter.Sample.{Sample}
-use Rattle.feed.specs.declared.Head.{Head}
+use Rattle.model.specs.declared.report.Phases.{Phases}
 use Rattle.feed.specs.declared.Feed.{Feed}
 use Rattle.feed.specs.declared.Answer.{Answer}
 use Rattle.feed.specs.declared.Answer.the-variants.{Refused, Taken, Reported}
 use Rattle.feed.specs.declared.Pushed.{Pushed}
 use Rattle.feed.specs.Answers.{Said, refused, done, taken, takenWith, said, tagged}
-use Rattle.feed.specs.History.{History, centreOf, isDue, reportAt, answered}
+use Rattle.feed.specs.History.{History, centreOf, isDue}
+use Rattle.feed.specs.Kept.{reportFrom, answeredFrom}
 use Rattle.feed.specs.Places.{placeOf}
 use Rattle.feed.specs.Ring.{faulty, endOfTimeOf, stored, historyOf, Next, pushed, Pushing as FeedPushing}
 use Rattle.feed.proofs.Answer.{the-type}
-use Rattle.bank.specs.Slot.{stateIn, headIn, headBytes, feedIn, slotOf, withSlot}
+use Rattle.bank.specs.Slot.{stateIn, headIn, headBytes, keptBytes, feedIn, slotOf, withSlot}
 use Rattle.bank.specs.Damage.{isFree, stray, isDamaged}
 use Rattle.bank.specs.Calls.{Outcome, pushedAt}
 use Rattle.bank.specs.Inside.{StandsIn, withPart}
@@ -37,12 +38,12 @@ left done before written = written
 left taken before written = written
 left (takenWith soc frame re im d1 d2 mark rePeak imPeak deviation rocof) before written = written
 
--- an answer by the history rule is no refusal
-left-answered : (h : History) (before written : List ℕ) → left (answered h) before written ≡ written
-unfolding answered reportAt tagged
-left-answered h before written = go (isDue h)
+-- an answer that takes the sample is no refusal
+left-answered : (h : History) (k : Phases) (before written : List ℕ) → left (answeredFrom h k) before written ≡ written
+unfolding answeredFrom reportFrom tagged
+left-answered h k before written = go (isDue h)
   where
-    go : (t : Bool) → left (cond t (reportAt h (centreOf h)) taken) before written ≡ written
+    go : (t : Bool) → left (cond t (reportFrom h (centreOf h) k) taken) before written ≡ written
     go true = refl
     go false = refl
 
@@ -53,13 +54,13 @@ left-taken (Refused number) before written (inr e) = absurd (omega arith)
 left-taken Taken before written e = refl
 left-taken (Reported r) before written e = refl
 
--- the slot with what a push writes: the numbers, and the sample in the next place
-abbrev pub written : List ℕ → Sample → Head → List ℕ
-written s v h = withPart (11 + 6 * headIn s .place) 6 (placeOf v) (headBytes h ++ drop 11 s)
+-- the slot with what a push writes: the numbers, the sample in the next place, and the kept phases
+abbrev pub written : List ℕ → Sample → Feed → List ℕ
+written s v f = withPart 197 15 (keptBytes (f .kept)) (withPart (11 + 6 * headIn s .place) 6 (placeOf v) (headBytes (f .head) ++ drop 11 s))
 
 -- how the bank's push ends where the feed's gives this
 abbrev pub ended : List ℕ → ℕ → List ℕ → Sample → Next → Outcome
-ended bank slot s v n = record { answer = n .answer; bank = withSlot bank slot (left (n .answer) s (written s v (n .feed .head))) }
+ended bank slot s v n = record { answer = n .answer; bank = withSlot bank slot (left (n .answer) s (written s v (n .feed))) }
 
 module _ {bank : List ℕ} {slot : ℕ} {s : List ℕ} (l : StandsIn bank slot s) (size : length s ≡ 256) (one : stateIn s ≡ 1) (clean : stray s ≡ false) (within : headIn s .place ≤ 30) (v : Sample) where
   not-free : isFree s ≡ false
@@ -84,15 +85,16 @@ module _ {bank : List ℕ} {slot : ℕ} {s : List ℕ} (l : StandsIn bank slot s
           ∙ stop _ _ (seen l (λ (r : List ℕ). endOfTimeOf (headIn r) .due) q)
           )
       go false false p q =
-          let kept = left-answered (historyOf (stored (feedIn s) v)) s _ ∙ stored-slot s size v within (clean-tail s size clean) in
+          let next : Feed = stored (feedIn s) v in
+          let kept = left-answered (historyOf next) (next .kept) s _ ∙ stored-slot s size v within (clean-tail s size clean) in
           ap (ended bank slot s v) (pass _ _ p ∙ pass _ _ q)
-          ∙ (λ i. record { answer = answered (historyOf (stored (feedIn s) v)); bank = withSlot bank slot (kept i) })
+          ∙ (λ i. record { answer = answeredFrom (historyOf next) (next .kept); bank = withSlot bank slot (kept i) })
           ∙ sym (
           inside l _ _ _
           ∙ pass _ _ (seen l isDamaged (open-damaged s one ∙ or-not _ p ∙ clean))
           ∙ pass _ _ (seen l isFree not-free)
           ∙ pass _ _ (seen l (λ (r : List ℕ). endOfTimeOf (headIn r) .due) q)
-          ∙ ap (λ (r : List ℕ). record { answer = answered (historyOf (stored (feedIn r) v)); bank = withSlot bank slot (slotOf (stored (feedIn r) v)) }) (l .there)
+          ∙ ap (λ (r : List ℕ). record { answer = answeredFrom (historyOf (stored (feedIn r) v)) (stored (feedIn r) v .kept); bank = withSlot bank slot (slotOf (stored (feedIn r) v)) }) (l .there)
           )
 
   -- the feed passes through a push as one value, and what it changes goes back: that is the bank's push

@@ -9,6 +9,7 @@ use Rattle.feed.proofs.Unique.{unsaid, unsaid-said}
 use Rattle.bank.specs.declared.Settled.{Settled}
 use Rattle.bank.specs.declared.Settled.the-variants.{Refused, Done}
 use Rattle.bank.specs.declared.damage.Damage.{Damage}
+use Rattle.bank.specs.Slot.{workedOutIn}
 use Rattle.bank.specs.Damage.{damageOf}
 use Rattle.bank.specs.Calls.{Outcome, settled, cleared, openedAt, pushedAt, closedAt, Clearing, Opening, Pushing, Closing}
 
@@ -46,3 +47,6 @@ close-unique bank slot = one-outcome settled unsettled unsettled-settled (closed
 
 pub damage-of-unique : (s : List ℕ) (r q : Damage) → r ≡ damageOf s → q ≡ damageOf s → r ≡ q
 damage-of-unique s r q e d = e ∙ sym d
+
+pub worked-out-unique : (s r q : List ℕ) → r ≡ workedOutIn s → q ≡ workedOutIn s → r ≡ q
+worked-out-unique s r q e d = e ∙ sym d

@@ -11,7 +11,7 @@ use Rattle.feed.specs.declared.Feed.{Feed}
 use Rattle.feed.specs.declared.Answer.{Answer}
 use Rattle.sampling.specs.Tags.{noNominal, noRate}
 use Rattle.feed.specs.Answers.{Said, refused, done, said}
-use Rattle.feed.specs.History.{answered}
+use Rattle.feed.specs.Kept.{answeredFrom}
 use Rattle.feed.specs.Places.{zeros}
 use Rattle.feed.specs.Ring.{opened, stored, historyOf, endOfTimeOf}
 use Rattle.bank.specs.declared.Settled.{Settled}
@@ -94,7 +94,7 @@ unfoldable pub pushedAt : List ℕ → ℕ → Sample → Outcome
 pushedAt bank slot s =
     let next : Feed = stored (feedIn (slotAt bank slot)) s in
     unlessRefused (pushRefusals bank slot) (refusing bank)
-    (record { answer = answered (historyOf next); bank = withSlot bank slot (slotOf next) })
+    (record { answer = answeredFrom (historyOf next) (next .kept); bank = withSlot bank slot (slotOf next) })
 
 -- close 1, 2, 3, 5
 abbrev pub closeRefusals : List ℕ → ℕ → List Refusal

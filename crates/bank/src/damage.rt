@@ -1,4 +1,4 @@
-// Document 01, "The bank", with CR 3: when a slot is damaged, and when only by stray bytes.
+// Document 01, "The bank", with CR 3 and CR 6: when a slot is damaged, and when only by stray bytes or flags over 1.
 use crate::slot::read_head;
 ghost use mathlib.Core.Path.{_≡_};
 ghost use mathlib.Core.Bool.{cond};
@@ -11,7 +11,7 @@ ghost use Rattle.bank.specs.Damage.{blank, stray, isDamaged, damageOf};
 pub enum Damage {
     // not at all
     None,
-    // open, and only by nonzero bytes in unfilled places or after byte 196
+    // open, and only by nonzero bytes in unfilled places or after byte 211, or by a flag over 1 (CR 6)
     Stray,
     // otherwise
     Other,
@@ -41,15 +41,16 @@ fn unfilled_from(held: u8) -> usize
     }
 }
 
-// Whether a byte is nonzero in an unfilled place or after byte 196.
+// Whether a byte is nonzero in an unfilled place or after byte 211, or a no-phase flag is over 1 (CR 6).
 pub(crate) fn is_stray(s: &[u8]) -> bool
     requires { ⌜ length (now s) ≡ 256 ⌝ }
     ensures { λ r. ⌜ r ≡ stray (now (s .entry)) ⌝ }
 {
     let from = unfilled_from(s[3]);
     let unfilled = is_blank(&s[from..197]);
-    let rest = is_blank(&s[197..256]);
-    !unfilled | !rest
+    let rest = is_blank(&s[212..256]);
+    let flags = (s[209] > 1) | (s[210] > 1) | (s[211] > 1);
+    !unfilled | !rest | flags
 }
 
 // Whether a slot is damaged.

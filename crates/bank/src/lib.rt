@@ -14,6 +14,7 @@ use opening::open_slot;
 use pushing::push_slot;
 use slot::Found;
 use slot::find;
+pub use slot::worked_out;
 use slot::zero;
 ghost use Rattle.bank.specs.Calls.{Clearing, Opening, Pushing, Closing};
 

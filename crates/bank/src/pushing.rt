@@ -29,7 +29,7 @@ pub(crate) fn push_slot(slot: &mut [u8], s: Sample) -> Answer
     push_open(slot, s)
 }
 
-// A push, of an open slot. Stray bytes and a place over 30 are refused here; the feed passes through as one value, which refuses its other
+// A push, of an open slot. Stray bytes, flags over 1 and a place over 30 are refused here; the feed passes through as one value, which refuses its other
 // faults with 3, then 8. Where the sample is taken, what it changes of the feed goes back.
 fn push_open(slot: &mut [u8], s: Sample) -> Answer
     requires { ⌜ (length (now slot) ≡ 256) × (stateIn (now slot) ≡ 1) ⌝ }
@@ -42,11 +42,12 @@ fn push_open(slot: &mut [u8], s: Sample) -> Answer
     let feed = read_feed(slot);
     let next = feed.push(s);
     let head = next.feed.head;
+    let kept = next.feed.kept;
     let answer = next.answer;
     match answer {
         Answer::Refused(number) => Answer::Refused(number),
         _ => {
-            put_back(slot, place, head, s);
+            put_back(slot, place, head, s, kept);
             answer
         }
     }

@@ -1,8 +1,8 @@
 -- The history rule looks at no more than a history's numbers and its last thirty-one samples: histories alike in these are answered alike, and stay alike.
-use mathlib.Core.Path.{_≡_, refl, sym, ap, ap₂, _∙_}
+use mathlib.Core.Path.{_≡_, refl, sym, ap, _∙_}
 use mathlib.Core.Bool.{Bool, true, false, cond}
 use mathlib.Core.List.{List, [], _∷_, _++_}
-use Prim.Native.Nat.{ℕ, _+_, _-_, _≤_, min}
+use Prim.Native.Nat.{ℕ, _+_, _-_, _≤_, _<_, min}
 use native.Mathlib.Omega.{arith}
 use lib.Dec.{leb}
 use lib.ListN.{length, getD, length-append}
@@ -10,11 +10,12 @@ use lib.Seq.{getD-drop}
 use borrow.Author.Tests.{le-leb, lt-leb, leb-true, leb-false}
 use Rattle.model.specs.declared.filter.Sample.{Sample}
 use Rattle.model.specs.Filter.{windowed, noSample}
-use Rattle.model.specs.Report.{threePhase}
-use Rattle.model.proofs.Same.{figures-same}
+use Rattle.model.specs.Report.{phaseAt, threePhase}
+use Rattle.model.proofs.Same.{phase-same, figures-same}
 use Rattle.sampling.specs.Tags.{nominalOf, socOf, indexOf}
 use Rattle.feed.specs.Answers.{Said, refused, taken, tagged}
 use Rattle.feed.specs.History.{History, nextNumber, centreOf, grown, isDue, reportAt, answered, endOfTime, Told, told}
+use Rattle.feed.specs.Kept.{zeroPhase, newestCentre, phaseBack}
 use Rattle.feed.specs.Ring.{lastOf}
 use Rattle.feed.proofs.Latest.{length-last, last-snoc, last-last}
 
@@ -35,12 +36,17 @@ alike-on h k l a b = record {
   latest-same = a .latest-same ∙ b .latest-same;
 }
 
+-- where a centre stands that has 29 samples, and so many after those
+pub centre-back : (h : History) (back : ℕ) → 29 + back ≤ length (h .samples) → newestCentre h - back + (15 + back) ≡ nextNumber h
+centre-back h back l = omega arith
+
 -- a sample among the last thirty-one, under its number
-windowed-latest : (xs : List Sample) (first n : ℕ) → 31 ≤ length xs → first + length xs ≤ n + 31
-    → windowed xs first n ≡ getD (lastOf 31 xs) (n + 31 - (first + length xs)) noSample
-windowed-latest xs first n h l =
-    let e : length xs - 31 + (n + 31 - (first + length xs)) ≡ n - first = omega arith in
-    ap (λ (i : ℕ). getD xs i noSample) (sym e) ∙ sym (getD-drop (length xs - 31) xs (n + 31 - (first + length xs)) noSample)
+windowed-latest : (xs : List Sample) (first n : ℕ) → first + length xs ≤ n + min 31 (length xs)
+    → windowed xs first n ≡ getD (lastOf 31 xs) (n + min 31 (length xs) - (first + length xs)) noSample
+windowed-latest xs first n l =
+    let i : ℕ = n + min 31 (length xs) - (first + length xs) in
+    let e : length xs - 31 + i ≡ n - first = omega arith in
+    ap (λ (k : ℕ). getD xs k noSample) (sym e) ∙ sym (getD-drop (length xs - 31) xs i noSample)
 
 -- whether the next sample is the last that SOC 4294967295 has
 abbrev pub isLast : History → Bool
@@ -64,22 +70,22 @@ module _ (h k : History) (a : Alike h k) where
   pub held-same : min 31 (length (h .samples)) ≡ min 31 (length (k .samples))
   held-same = sym (length-last 31 (h .samples)) ∙ ap length (a .latest-same) ∙ length-last 31 (k .samples)
 
-  enough-same : leb 31 (length (h .samples)) ≡ leb 31 (length (k .samples))
-  enough-same = go (leb 31 (length (h .samples))) refl
+  enough-same : (n : ℕ) → n ≤ 31 → leb n (length (h .samples)) ≡ leb n (length (k .samples))
+  enough-same n l = go (leb n (length (h .samples))) refl
     where
-      go : (b : Bool) → leb 31 (length (h .samples)) ≡ b → b ≡ leb 31 (length (k .samples))
-      go true e = sym (le-leb 31 (length (k .samples)) (omega (arith, leb-true 31 (length (h .samples)) e, held-same)))
-      go false e = sym (lt-leb 31 (length (k .samples)) (omega (arith, leb-false 31 (length (h .samples)) e, held-same)))
+      go : (b : Bool) → leb n (length (h .samples)) ≡ b → b ≡ leb n (length (k .samples))
+      go true e = sym (le-leb n (length (k .samples)) (omega (arith, leb-true n (length (h .samples)) e, held-same)))
+      go false e = sym (lt-leb n (length (k .samples)) (omega (arith, leb-false n (length (h .samples)) e, held-same)))
 
   due-same : isDue h ≡ isDue k
   unfolding isDue
-  due-same = rw (enough-same, a .nominal-same, a .rate-same, a .next-same)
+  due-same = rw (enough-same 31 (omega arith), a .nominal-same, a .rate-same, a .next-same)
 
-  sample-same : 31 ≤ length (h .samples) → (n : ℕ) → nextNumber h ≤ n + 31 → windowed (h .samples) (h .first) n ≡ windowed (k .samples) (k .first) n
-  sample-same l n p =
-      windowed-latest (h .samples) (h .first) n l p
-      ∙ ap₂ (λ (xs : List Sample) (m : ℕ). getD xs (n + 31 - m) noSample) (a .latest-same) (a .next-same)
-      ∙ sym (windowed-latest (k .samples) (k .first) n (omega (arith, held-same)) (omega (arith, a .next-same)))
+  sample-same : (n : ℕ) → nextNumber h ≤ n + min 31 (length (h .samples)) → windowed (h .samples) (h .first) n ≡ windowed (k .samples) (k .first) n
+  sample-same n p =
+      windowed-latest (h .samples) (h .first) n p
+      ∙ (λ i. getD (a .latest-same i) (n + held-same i - a .next-same i) noSample)
+      ∙ sym (windowed-latest (k .samples) (k .first) n (omega (arith, held-same, a .next-same)))
 
   report-same : 31 ≤ length (h .samples) → reportAt h (centreOf h) ≡ reportAt k (centreOf k)
   unfolding reportAt
@@ -87,7 +93,7 @@ module _ (h k : History) (a : Alike h k) where
       rw (← a .nominal-same, ← a .rate-same, ← a .next-same)
       (ap (tagged _ _)
       (figures-same (windowed (h .samples) (h .first)) (windowed (k .samples) (k .first)) (centreOf h) (centreOf h)
-      (omega arith) (omega arith) refl (λ j p. sample-same l (centreOf h + j - 15) (omega arith)) threePhase (nominalOf (h .nominal))))
+      (omega arith) (omega arith) refl (λ j p. sample-same (centreOf h + j - 15) (omega arith)) threePhase (nominalOf (h .nominal))))
 
   pub answered-same : answered h ≡ answered k
   unfolding answered isDue
@@ -96,6 +102,29 @@ module _ (h k : History) (a : Alike h k) where
       go : (b : Bool) → leb 31 (length (h .samples)) ≡ b → cond (isDue h) (reportAt h (centreOf h)) taken ≡ cond (isDue h) (reportAt k (centreOf k)) taken
       go true e = ap (λ (r : Said). cond (isDue h) r taken) (report-same (leb-true 31 (length (h .samples)) e))
       go false e = rw e
+
+  -- the phases at the three newest centres are those of the last thirty-one samples
+  pub back-same : (back : ℕ) → back ≤ 2 → phaseBack h back ≡ phaseBack k back
+  unfolding phaseBack
+  back-same back l = rw (← enough-same (29 + back) (omega arith)) (go (leb (29 + back) (length (h .samples))) refl)
+    where
+      near : (i j : ℕ) → 29 + back ≤ length (h .samples) → i + (15 + back) ≡ nextNumber h → j < 29 → nextNumber h ≤ i + j - 14 + min 31 (length (h .samples))
+      near i j n c p = omega arith
+
+      at : (i : ℕ) → 29 + back ≤ length (h .samples) → i + (15 + back) ≡ nextNumber h
+          → phaseAt threePhase (windowed (h .samples) (h .first)) i ≡ phaseAt threePhase (windowed (k .samples) (k .first)) i
+      at i n c =
+          phase-same (windowed (h .samples) (h .first)) (windowed (k .samples) (k .first)) i i (omega arith) (omega arith) refl
+          (λ j p. sample-same (i + j - 14) (near i j n c p)) threePhase
+
+      go : (b : Bool) → leb (29 + back) (length (h .samples)) ≡ b
+          → cond b (phaseAt threePhase (windowed (h .samples) (h .first)) (newestCentre h - back)) zeroPhase
+          ≡ cond b (phaseAt threePhase (windowed (k .samples) (k .first)) (newestCentre k - back)) zeroPhase
+      go true e =
+          let n = leb-true (29 + back) (length (h .samples)) e in
+          let c : newestCentre k - back ≡ newestCentre h - back = omega (arith, a .next-same) in
+          rw c (at (newestCentre h - back) n (centre-back h back n))
+      go false e = refl
 
   thirty-same : lastOf 30 (h .samples) ≡ lastOf 30 (k .samples)
   thirty-same =

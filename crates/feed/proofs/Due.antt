@@ -1,26 +1,28 @@
--- The report that comes with a sample, told of the head before it, is the one that the history rule gives of the samples then held: where
+-- The report that comes with a sample, told of the head before it, is the one of the samples and the phases then held: where
 -- thirty were held the places read round are the whole history, where fewer were neither gives one. Assumes nothing.
 use mathlib.Core.Path.{_≡_, refl, ap, _∙_}
 use mathlib.Core.Bool.{Bool, true, false, cond}
 use mathlib.Core.List.{List}
 use Prim.Native.Nat.{ℕ, suc, _+_, _-_, _*_, _<_, _≤_, min}
 use native.Mathlib.Omega.{arith}
-use lib.Dec.{leb, ltb, eqb}
+use lib.Dec.{leb, ltb}
 use lib.ListN.{length, drop, length-drop}
-use borrow.Author.Tests.{leb-true, leb-false, le-leb, lt-leb, ltb-true, ltb-false, eqb-true, eqb-false}
+use borrow.Author.Tests.{leb-true, leb-false, le-leb, lt-leb, ltb-true, ltb-false, eqb-true}
 use Rattle.model.specs.declared.filter.Sample.{Sample}
+use Rattle.model.specs.declared.report.Phases.{Phases}
 use Rattle.feed.specs.declared.Head.{Head}
 use Rattle.feed.specs.declared.Feed.{Feed}
 use Rattle.sampling.specs.Sampling.{samplingOf}
 use Rattle.feed.specs.Answers.{taken}
-use Rattle.feed.specs.History.{History, centreOf, lastIndex, isDue, reportAt, answered}
+use Rattle.feed.specs.History.{History, centreOf, lastIndex, isDue}
+use Rattle.feed.specs.Kept.{reportFrom, answeredFrom}
 use Rattle.feed.specs.Places.{samplesOf}
 use Rattle.feed.specs.Ring.{nextNumberOf, nextHead, oldestFirst, lastOf, historyOf}
 use Rattle.feed.specs.Inside.{centreNumber, dueWith, reportWith}
 use Rattle.feed.proofs.Sound.{Sound}
 use Rattle.feed.proofs.Standing.{started}
 use Rattle.feed.proofs.Samples.{samples-length}
-use Rattle.feed.proofs.Rounds.{length-round}
+use Rattle.feed.proofs.Rounds.{next-within, length-round}
 
 -- ---- the head after one sample more
 
@@ -35,11 +37,7 @@ module _ (h : Head) (s : Sound h) where
 
   pub place-after : nextHead h .place ≤ 30
   unfolding nextHead
-  place-after = go (eqb (h .place) 30) refl
-    where
-      go : (b : Bool) → eqb (h .place) 30 ≡ b → cond b 0 (h .place + 1) ≤ 30
-      go true e = omega arith
-      go false e = let n = eqb-false (h .place) 30 e in omega (arith, s .place)
+  place-after = next-within (h .place) (s .place)
 
   pub clock-after : nextNumberOf (nextHead h) ≡ nextNumberOf h + 1
   unfolding nextHead
@@ -51,10 +49,10 @@ module _ (h : Head) (s : Sound h) where
 
 -- ---- the history of what is then held
 
-module _ (h : Head) (s : Sound h) (p : List ℕ) where
+module _ (h : Head) (s : Sound h) (p : List ℕ) (k : Phases) where
   -- the feed with one sample more, and the samples in its places, oldest first
   abbrev pub next : Feed
-  next = record { head = nextHead h; places = p }
+  next = record { head = nextHead h; places = p; kept = k }
 
   abbrev pub window : List Sample
   window = oldestFirst (nextHead h .place) (samplesOf 31 p)
@@ -84,21 +82,21 @@ module _ (h : Head) (s : Sound h) (p : List ℕ) where
   unfolding told
   at-centre full = omega (arith, window-length, started h s)
 
-  told-is : 30 ≤ h .held → answered told ≡ cond (dueWith h) (reportWith h window) taken
-  unfolding told answered isDue reportAt dueWith reportWith
+  told-is : 30 ≤ h .held → answeredFrom told k ≡ cond (dueWith h) (reportWith h window k) taken
+  unfolding told answeredFrom isDue reportFrom dueWith reportWith
   told-is full =
       let t : leb 31 (length window) ≡ true = le-leb 31 (length window) (omega (arith, window-length)) in
       rw (t, at-centre full, le-leb 30 (h .held) full)
 
-  short : h .held < 30 → answered (historyOf next) ≡ cond (dueWith h) (reportWith h window) taken
-  unfolding historyOf answered isDue dueWith
+  short : h .held < 30 → answeredFrom (historyOf next) k ≡ cond (dueWith h) (reportWith h window k) taken
+  unfolding historyOf answeredFrom isDue dueWith
   short l =
       let n : length (lastOf (nextHead h .held) window) < 31 = simp length-drop (omega (arith, window-length, held-after h s)) in
       rw (lt-leb 31 (length (lastOf (nextHead h .held) window)) n, lt-leb 30 (h .held) l)
 
-  pub answer-is : answered (historyOf next) ≡ cond (dueWith h) (reportWith h window) taken
+  pub answer-is : answeredFrom (historyOf next) k ≡ cond (dueWith h) (reportWith h window k) taken
   answer-is = go (leb 30 (h .held)) refl
     where
-      go : (b : Bool) → leb 30 (h .held) ≡ b → answered (historyOf next) ≡ cond (dueWith h) (reportWith h window) taken
-      go true e = let l = leb-true 30 (h .held) e in ap answered (whole l) ∙ told-is l
+      go : (b : Bool) → leb 30 (h .held) ≡ b → answeredFrom (historyOf next) k ≡ cond (dueWith h) (reportWith h window k) taken
+      go true e = let l = leb-true 30 (h .held) e in ap (λ (x : History). answeredFrom x k) (whole l) ∙ told-is l
       go false e = short (leb-false 30 (h .held) e)

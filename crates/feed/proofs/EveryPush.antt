@@ -9,7 +9,7 @@ use Rattle.feed.specs.declared.Feed.{Feed}
 use Rattle.sampling.specs.Tags.{servedNominal, servedRate, keptRate}
 use Rattle.feed.specs.Answers.{Said}
 use Rattle.feed.specs.History.{History, opening, told}
-use Rattle.feed.specs.Ring.{faulty, opened, historyOf, pushed}
+use Rattle.feed.specs.Ring.{faulty, opened, historyOf, pushed, True}
 use Rattle.feed.proofs.Stored.{Fits16}
 use Rattle.feed.proofs.Meeting.{Keeps, held-kept, opening-kept, push-meets}
 
@@ -38,6 +38,6 @@ pub from-opening : (nominal rate soc : ℕ) → servedNominal nominal ≡ true �
     → (ss : List Sample) → AllFit16 ss → pushes (opened nominal rate soc) ss ≡ tells (opening nominal rate soc) ss
 from-opening nominal rate soc a b = ring-meets-rule (opened nominal rate soc) (opening nominal rate soc) (opening-kept nominal rate soc a b)
 
--- from any feed with samples held
-pub from-held : (f : Feed) → faulty (f .head) ≡ false → length (f .places) ≡ 186 → (ss : List Sample) → AllFit16 ss → pushes f ss ≡ tells (historyOf f) ss
-from-held f e l = ring-meets-rule f (historyOf f) (held-kept f e l)
+-- from any feed with samples held and true phases
+pub from-held : (f : Feed) → faulty (f .head) ≡ false → length (f .places) ≡ 186 → True f → (ss : List Sample) → AllFit16 ss → pushes f ss ≡ tells (historyOf f) ss
+from-held f e l t = ring-meets-rule f (historyOf f) (held-kept f e l t)

@@ -3,6 +3,7 @@ pub mod EveryPush
 pub mod Unique
 pub mod Meeting
 pub mod Alike
+pub mod Truth
 pub mod Faultless
 pub mod Stored
 pub mod Latest
@@ -14,5 +15,6 @@ pub mod Standing
 pub mod Stores
 pub mod Rounds
 pub mod Due
+pub mod Centres
 pub mod Turning
 pub mod Pushes

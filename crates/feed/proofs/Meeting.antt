@@ -1,18 +1,20 @@
--- The ring meets the history rule: what a feed holds is the end of the history that it keeps, and a push keeps it so.
+-- The ring meets the history rule: what a feed holds is the end of the history that it keeps, its kept phases are true, and a push keeps both so.
 use mathlib.Core.Path.{_≡_, refl, sym, ap, ap₂, _∙_}
 use mathlib.Core.Bool.{Bool, true, false}
 use mathlib.Core.List.{List, [], _∷_, _++_}
-use Prim.Native.Nat.{ℕ, suc, _+_, min}
+use Prim.Native.Nat.{ℕ, suc, _+_, _≤_, min}
 use native.Mathlib.Omega.{arith}
 use lib.Arith.{digits-div, digits-mod}
 use lib.ListN.{length, drop, length-append, length-replicate}
 use Rattle.model.specs.declared.filter.Sample.{Sample}
+use Rattle.model.specs.declared.report.Phases.{Phases}
 use Rattle.feed.specs.declared.Feed.{Feed}
 use Rattle.sampling.specs.Tags.{servedNominal, servedRate, keptRate}
 use Rattle.feed.specs.Answers.{refused}
 use Rattle.feed.specs.History.{History, nextNumber, opening, grown, answered, Told, told}
 use Rattle.feed.specs.Places.{zeros, samplesOf}
-use Rattle.feed.specs.Ring.{faulty, nextNumberOf, opened, nextHead, stored, oldestFirst, lastOf, historyOf, endOfTimeOf, Next, pushed}
+use Rattle.feed.specs.Kept.{phaseBack, phasesOf, answeredFrom}
+use Rattle.feed.specs.Ring.{faulty, nextNumberOf, opened, nextHead, placed, stored, oldestFirst, lastOf, historyOf, endOfTimeOf, Next, pushed, True}
 use Rattle.feed.proofs.Sound.{Sound, sound}
 use Rattle.feed.proofs.Standing.{started}
 use Rattle.feed.proofs.Samples.{samples-length}
@@ -21,29 +23,31 @@ use Rattle.feed.proofs.Due.{held-after, clock-after}
 use Rattle.feed.proofs.Faultless.{opened-sound, push-sound}
 use Rattle.feed.proofs.Latest.{length-last, last-snoc, last-last, last-drop, last-all, last-none, round-store}
 use Rattle.feed.proofs.Stored.{Fits16, with-length, samples-set}
-use Rattle.feed.proofs.Alike.{Alike, alike-self, alike-on, isLast, told-last, told-on, answered-same, grown-alike}
+use Rattle.feed.proofs.Alike.{Alike, alike-self, alike-on, isLast, told-last, told-on, answered-same, back-same, grown-alike}
+use Rattle.feed.proofs.Truth.{back-grows, none-yet, answered-true}
 
--- a feed keeps a history: its numbers are not faulty, its places are whole, and what it holds is that history's end
+-- a feed keeps a history: its numbers are not faulty, its places are whole, what it holds is that history's end, and its kept phases are true
 pub record Keeps (f : Feed) (h : History) : Type 0 where
   pub faultless : faulty (f .head) ≡ false
   pub whole : length (f .places) ≡ 186
   pub alike : Alike (historyOf f) h
+  pub true-kept : True f
 
 -- the thirty-one places, the oldest first
-abbrev ringOf : Feed → List Sample
+abbrev pub ringOf : Feed → List Sample
 ringOf f = oldestFirst (f .head .place) (samplesOf 31 (f .places))
 
 module _ (f : Feed) (n : Sound (f .head)) where
-  ring-length : length (ringOf f) ≡ 31
+  pub ring-length : length (ringOf f) ≡ 31
   ring-length =
       length-round (f .head .place) (samplesOf 31 (f .places)) (omega (arith, n .place, samples-length 31 (f .places)))
       ∙ samples-length 31 (f .places)
 
-  held-is : length ((historyOf f) .samples) ≡ f .head .held
+  pub held-is : length ((historyOf f) .samples) ≡ f .head .held
   unfolding historyOf
   held-is = length-last (f .head .held) (ringOf f) ∙ omega (arith, ring-length, n .held)
 
-  next-is : nextNumber (historyOf f) ≡ nextNumberOf (f .head)
+  pub next-is : nextNumber (historyOf f) ≡ nextNumberOf (f .head)
   unfolding historyOf
   next-is = omega (arith, held-is, started (f .head) n)
 
@@ -101,10 +105,28 @@ module _ (f : Feed) (s : Sample) (n : Sound (f .head)) (whole : length (f .place
     latest-same = latest-after;
   }
 
+  -- what the rule gives for a centre, it gives one further back with one sample more
+  moved : faulty (f .head) ≡ false → (back : ℕ) → back ≤ 1 → phaseBack (historyOf f) back ≡ phaseBack (historyOf (stored f s)) (suc back)
+  moved e back l =
+      sym (back-grows (historyOf f) s back)
+      ∙ sym (back-same (historyOf (stored f s)) (grown (historyOf f) s) (stored-alike e) (suc back) (omega arith))
+
+  same-history : historyOf (placed f s) ≡ historyOf (stored f s)
+  unfolding historyOf stored
+  same-history = refl
+
+  -- true phases move on, and the newest is the rule's: so they stay true
+  pub stored-true : faulty (f .head) ≡ false → True f → True (stored f s)
+  unfolding stored phasesOf
+  stored-true e t =
+      let p = ap (λ (k : Phases). k .q) t ∙ moved e 1 (omega arith) in
+      let q = ap (λ (k : Phases). k .r) t ∙ moved e 0 (omega arith) in
+      λ i. record { p = p i; q = q i; r = phaseBack (same-history i) 0 }
+
 -- ---- a feed with what it holds, and a fresh opening
 
-pub held-kept : (f : Feed) → faulty (f .head) ≡ false → length (f .places) ≡ 186 → Keeps f (historyOf f)
-held-kept f e l = record { faultless = e; whole = l; alike = alike-self (historyOf f) }
+pub held-kept : (f : Feed) → faulty (f .head) ≡ false → length (f .places) ≡ 186 → True f → Keeps f (historyOf f)
+held-kept f e l t = record { faultless = e; whole = l; alike = alike-self (historyOf f); true-kept = t }
 
 module _ (nominal rate soc : ℕ) where
   pub opened-whole : length ((opened nominal rate soc) .places) ≡ 186
@@ -120,11 +142,15 @@ module _ (nominal rate soc : ℕ) where
     latest-same = ap (λ (xs : List Sample). lastOf 31 xs) (last-none (ringOf (opened nominal rate soc)));
   }
 
+  pub opened-true : True (opened nominal rate soc)
+  unfolding historyOf opened
+  opened-true = sym (none-yet (historyOf (opened nominal rate soc)) (ap length (last-none (ringOf (opened nominal rate soc)))))
+
   pub opening-kept : servedNominal nominal ≡ true → servedRate nominal (keptRate nominal rate) ≡ true
       → Keeps (opened nominal rate soc) (opening nominal rate soc)
   opening-kept a b =
       let e = opened-sound nominal rate soc a b in
-      record { faultless = e; whole = opened-whole; alike = opened-alike (sound _ e) }
+      record { faultless = e; whole = opened-whole; alike = opened-alike (sound _ e); true-kept = opened-true }
 
 -- ---- a push
 
@@ -151,18 +177,24 @@ module _ (f : Feed) (h : History) (k : Keeps f h) where
         (stored-alike f s (sound (f .head) (k .faultless)) (k .whole) fits (k .faultless))
         (grown-alike (historyOf f) h (k .alike) s)
 
-    pub answer-kept : answered (historyOf (stored f s)) ≡ answered (grown h s)
-    answer-kept = answered-same (historyOf (stored f s)) (grown h s) on
+    still-true : True (stored f s)
+    still-true = stored-true f s (sound (f .head) (k .faultless)) (k .whole) fits (k .faultless) (k .true-kept)
+
+    pub answer-kept : answeredFrom (historyOf (stored f s)) (stored f s .kept) ≡ answered (grown h s)
+    answer-kept =
+        ap (answeredFrom (historyOf (stored f s))) still-true
+        ∙ answered-true (historyOf (stored f s))
+        ∙ answered-same (historyOf (stored f s)) (grown h s) on
 
     pub stored-kept : Keeps (stored f s) (grown h s)
-    stored-kept = record { faultless = stored-sound f s (k .faultless); whole = stored-whole f s (k .faultless) (k .whole); alike = on }
+    stored-kept = record { faultless = stored-sound f s (k .faultless); whole = stored-whole f s (k .faultless) (k .whole); alike = on; true-kept = still-true }
 
 pub pushed-last : (f : Feed) (s : Sample) → faulty (f .head) ≡ false → (endOfTimeOf (f .head)) .due ≡ true → pushed f s ≡ record { answer = refused 8; feed = f }
 unfolding pushed
 pushed-last f s e d = rw (e, d)
 
 pub pushed-on : (f : Feed) (s : Sample) → faulty (f .head) ≡ false → (endOfTimeOf (f .head)) .due ≡ false
-    → pushed f s ≡ record { answer = answered (historyOf (stored f s)); feed = stored f s }
+    → pushed f s ≡ record { answer = answeredFrom (historyOf (stored f s)) (stored f s .kept); feed = stored f s }
 unfolding pushed
 pushed-on f s e d = rw (e, d)
 

@@ -1,23 +1,26 @@
 -- The numbers of the thirty-one places in two runs, from a place to the last and from the first up to it, are the samples read round from that
 -- place, a, b and c of each in turn. Assumes nothing.
 use mathlib.Core.Path.{_≡_, refl, sym, ap, _∙_}
-use mathlib.Core.Bool.{Bool, true, false}
+use mathlib.Core.Bool.{Bool, true, false, cond}
 use mathlib.Core.List.{List, [], _++_, append-nil}
 use Prim.Native.Nat.{ℕ, _+_, _-_, _*_, _%_, _<_, _≤_}
 use native.Mathlib.Omega.{arith}
 use borrow.Rule.Slice.PartMut.{midOf, postOf, putMid}
-use borrow.Author.Tests.{ltb-true, ltb-false}
-use lib.Dec.{ltb}
+use borrow.Author.Tests.{ltb-true, ltb-false, eqb-true, eqb-false}
+use native.Mathlib.Nat.{ne-of-lt}
+use lib.Dec.{ltb, eqb}
 use lib.IntN.{ℤ, pos}
-use lib.ListN.{length, getD, take, drop, length-append, length-drop, drop-of-length-le, List·getD-append}
-use lib.Seq.{getD-append-add, ext-getD, take-all, take-at, drop-at, length-take-le}
+use lib.ListN.{length, getD, set, take, drop, length-set, length-append, length-drop, drop-of-length-le, List·getD-append}
+use lib.Seq.{getD-set-same, getD-set-other, getD-append-add, ext-getD, take-all, take-at, drop-at, length-take-le}
+use Rattle.model.specs.declared.filter.Sample.{Sample}
 use Rattle.model.specs.Filter.{noSample, lentSamples}
 use Rattle.model.proofs.Windows as lent
-use Rattle.feed.specs.Places.{samplesOf}
+use Rattle.feed.specs.Places.{samplesOf, withPlace}
 use Rattle.feed.specs.Ring.{oldestFirst}
 use Rattle.feed.specs.Inside.{numbersIn}
 use Rattle.feed.proofs.Samples.{word-at, word-past, word-within, six-bytes, samples-length, sample-in, numbers-length, number-in}
 use Rattle.feed.proofs.Rounds.{length-round, round-at}
+use Rattle.feed.proofs.Stored.{Fits16, samples-set}
 
 module _ (l : List ℕ) (place : ℕ) (h : place ≤ 30) where
   abbrev older : List ℤ
@@ -107,3 +110,66 @@ module _ (l : List ℕ) (place : ℕ) (h : place ≤ 30) where
 
           none : postOf from (93 - from) first-put ≡ []
           none = ap (drop (93 - from)) left ∙ drop-of-length-le (postOf 0 (from - 0) w) {i = 93 - from} (omega (arith, rest))
+
+-- ---- a sample put last
+
+-- three numbers put over the last ones of a window are its last sample
+last-put : (w : List ℤ) (s : Sample) → length w ≡ 93 → lentSamples 31 (lent.three-put w 90 (s .a) (s .b) (s .c)) ≡ set (lentSamples 31 w) 30 s
+last-put w s long =
+    ext-getD noSample _ _ (lent.samples-length 31 (lent.three-put w 90 (s .a) (s .b) (s .c)) ∙ sym (length-set (lentSamples 31 w) 30 s ∙ n)) (λ j b. at j (omega (arith, lent.samples-length 31 (lent.three-put w 90 (s .a) (s .b) (s .c)))))
+  where
+    n : length (lentSamples 31 w) ≡ 31
+    n = lent.samples-length 31 w
+
+    at : (j : ℕ) → j < 31 → getD (lentSamples 31 (lent.three-put w 90 (s .a) (s .b) (s .c))) j noSample ≡ getD (set (lentSamples 31 w) 30 s) j noSample
+    at j b = lent.sample-in 31 (lent.three-put w 90 (s .a) (s .b) (s .c)) j b ∙ go (ltb j 30) refl
+      where
+        go : (t : Bool) → ltb j 30 ≡ t → lent.three-at (lent.three-put w 90 (s .a) (s .b) (s .c)) (3 * j) ≡ getD (set (lentSamples 31 w) 30 s) j noSample
+        go true t =
+            let l = ltb-true j 30 t in
+            lent.three-kept w 90 (s .a) (s .b) (s .c) (3 * j) (omega arith)
+            ∙ sym (getD-set-other (lentSamples 31 w) 30 j s noSample (ne-of-lt l) ∙ lent.sample-in 31 w j b)
+        go false t =
+            let e : j ≡ 30 = omega (arith, ltb-false j 30 t) in
+            rw e (lent.three-there w 90 (s .a) (s .b) (s .c) (omega (arith, long)) ∙ sym (getD-set-same (lentSamples 31 w) 30 s noSample (omega (arith, n))))
+
+-- thirty-one read round from the place after one: what is put in that place is put last
+round-set : {S : Type 0} (d s : S) (l : List S) (place : ℕ) → place ≤ 30 → length l ≡ 31
+    → set (oldestFirst (cond (eqb place 30) 0 (place + 1)) l) 30 s ≡ oldestFirst (cond (eqb place 30) 0 (place + 1)) (set l place s)
+round-set {S} d s l place h n = from (cond (eqb place 30) 0 (place + 1)) (next-is (eqb place 30) refl)
+  where
+    next-is : (t : Bool) → eqb place 30 ≡ t → cond t 0 (place + 1) ≡ (place + 1) % 31
+    next-is true t = omega (arith, eqb-true place 30 t)
+    next-is false t = let m = eqb-false place 30 t in omega arith
+
+    from : (next : ℕ) → next ≡ (place + 1) % 31 → set (oldestFirst next l) 30 s ≡ oldestFirst next (set l place s)
+    from next e =
+        ext-getD d _ _ (length-set (oldestFirst next l) 30 s ∙ m ∙ sym (length-round next (set l place s) (omega (arith, length-set l place s)) ∙ length-set l place s ∙ n))
+        (λ j b. at j (omega (arith, length-set (oldestFirst next l) 30 s, m)))
+      where
+        m : length (oldestFirst next l) ≡ 31
+        m = length-round next l (omega arith) ∙ n
+
+        at : (j : ℕ) → j < 31 → getD (set (oldestFirst next l) 30 s) j d ≡ getD (oldestFirst next (set l place s)) j d
+        at j b = go (ltb j 30) refl ∙ sym (round-at next (set l place s) j d (omega arith) (length-set l place s ∙ n) b)
+          where
+            go : (t : Bool) → ltb j 30 ≡ t → getD (set (oldestFirst next l) 30 s) j d ≡ getD (set l place s) ((next + j) % 31) d
+            go true t =
+                let k = ltb-true j 30 t in
+                getD-set-other (oldestFirst next l) 30 j s d (ne-of-lt k)
+                ∙ round-at next l j d (omega arith) n b
+                ∙ sym (getD-set-other l place ((next + j) % 31) s d (λ q. omega (arith, q)))
+            go false t =
+                let k : j ≡ 30 = omega (arith, ltb-false j 30 t) in
+                let q : (next + j) % 31 ≡ place = omega arith in
+                rw (q, k) (getD-set-same (oldestFirst next l) 30 s d (omega (arith, m)) ∙ sym (getD-set-same l place s d (omega arith)))
+
+-- the window of the places with a sample in one of them: the window from the place after it, and the sample put last
+pub with-last : (l : List ℕ) (place : ℕ) (s : Sample) (w : List ℤ) → place ≤ 30 → length l ≡ 186 → Fits16 s → length w ≡ 93
+    → lentSamples 31 w ≡ oldestFirst (cond (eqb place 30) 0 (place + 1)) (samplesOf 31 l)
+    → lentSamples 31 (lent.three-put w 90 (s .a) (s .b) (s .c)) ≡ oldestFirst (cond (eqb place 30) 0 (place + 1)) (samplesOf 31 (withPlace l place s))
+with-last l place s w h size fits long e =
+    last-put w s long
+    ∙ ap (λ (r : List Sample). set r 30 s) e
+    ∙ round-set noSample s (samplesOf 31 l) place h (samples-length 31 l)
+    ∙ ap (oldestFirst (cond (eqb place 30) 0 (place + 1))) (sym (samples-set 31 place l s (omega arith) (omega arith) fits))

@@ -1,14 +1,22 @@
 -- A list of thirty-one read round from a place: element j is the one j places on, modulo 31. Assumes nothing.
 use mathlib.Core.Path.{_≡_, refl, ap, _∙_}
-use mathlib.Core.Bool.{Bool, true, false}
+use mathlib.Core.Bool.{Bool, true, false, cond}
 use mathlib.Core.List.{List}
 use Prim.Native.Nat.{ℕ, _+_, _-_, _%_, _<_, _≤_}
 use native.Mathlib.Omega.{arith}
-use lib.Dec.{ltb}
+use lib.Dec.{ltb, eqb}
 use lib.ListN.{length, getD, take, drop, length-append, length-take, length-drop, List·getD-append}
 use lib.Seq.{getD-append-add, getD-take, getD-drop}
-use borrow.Author.Tests.{ltb-true, ltb-false}
+use borrow.Author.Tests.{ltb-true, ltb-false, eqb-false}
 use Rattle.feed.specs.Ring.{oldestFirst}
+
+-- the place after one is one of thirty-one
+pub next-within : (place : ℕ) → place ≤ 30 → cond (eqb place 30) 0 (place + 1) ≤ 30
+next-within place h = go (eqb place 30) refl
+  where
+    go : (t : Bool) → eqb place 30 ≡ t → cond t 0 (place + 1) ≤ 30
+    go true t = omega arith
+    go false t = let m = eqb-false place 30 t in omega arith
 
 module _ {S : Type 0} (p : ℕ) (l : List S) where
   pub length-round : p ≤ length l → length (oldestFirst p l) ≡ length l

@@ -12,7 +12,7 @@ use Rattle.feed.specs.declared.Answer.the-variants.{Refused, Taken, Repo
 use Rattle.feed.specs.declared.Pushed.{Pushed}
 use Rattle.feed.specs.Answers.{Said, refused, done, taken, takenWith, said}
 use Rattle.feed.specs.Places.{sampleOf, placeOf}
-use Rattle.feed.specs.Ring.{Next, faulty, opened, Pushing}
+use Rattle.feed.specs.Ring.{Next, faulty, opened, workedOut, Pushing}
 
 -- the answer of which this is said; no push answers "done"
 abbrev pub unsaid : Said → Answer
@@ -49,6 +49,9 @@ feed-push-unique f s r q e d =
     let n : _≡_ {A = Next} (record { answer = said (r .answer); feed = r .feed }) (record { answer = said (q .answer); feed = q .feed }) = e ∙ sym d in
     let a : r .answer ≡ q .answer = sym (unsaid-said (r .answer)) ∙ ap (λ (x : Next). unsaid (x .answer)) n ∙ unsaid-said (q .answer) in
     λ i. record { feed = n i .feed; answer = a i }
+
+pub feed-worked-out-unique : (f r q : Feed) → r ≡ workedOut f → q ≡ workedOut f → r ≡ q
+feed-worked-out-unique f r q e d = e ∙ sym d
 
 pub sample-of-unique : (bytes : List ℕ) (r q : Sample) → r ≡ sampleOf bytes → q ≡ sampleOf bytes → r ≡ q
 sample-of-unique bytes r q e d = e ∙ sym d

@@ -1,4 +1,4 @@
--- Document 01, "The bank": a feed as its slot keeps it, and what opening and pushing do to it.
+-- Document 01, "The bank", with CR 6: a feed as its slot keeps it, and what opening and pushing do to it.
 use mathlib.Core.Path.{_≡_}
 use mathlib.Core.Bool.{Bool, cond, not, _&&_, _||_}
 use mathlib.Core.List.{List, [], _∷_, _++_}
@@ -13,7 +13,8 @@ use Rattle.feed.specs.declared.Pushed.{Pushed}
 use Rattle.sampling.specs.Tags.{servedNominal, servedRate, keptRate}
 use Rattle.sampling.specs.Sampling.{samplingOf}
 use Rattle.feed.specs.Answers.{Said, refused, said}
-use Rattle.feed.specs.History.{History, answered, lastIndex, endOfTime}
+use Rattle.feed.specs.History.{History, lastIndex, endOfTime}
+use Rattle.feed.specs.Kept.{phaseBack, phasesOf, zeroPhases, movedOn, answeredFrom}
 use Rattle.feed.specs.Places.{zeros, samplesOf, withPlace}
 
 -- ---- the numbers
@@ -40,12 +41,13 @@ nextNumberOf h = h .soc * samplingOf (h .nominal) + h .index
 
 -- ---- opening
 
--- Opening sets the nominal, the kept rate, the SOC, index 0, none held, place 0, all places zero;
+-- Opening sets the nominal, the kept rate, the SOC, index 0, none held, place 0, all places zero; it sets the three phases to zero (CR 6);
 -- an unserved nominal or rate makes the numbers faulty
 unfoldable pub opened : ℕ → ℕ → ℕ → Feed
 opened nominal rate soc = record {
   head = record { nominal = nominal; rate = keptRate nominal rate; held = 0; soc = soc; index = 0; place = 0 };
   places = zeros 186;
+  kept = zeroPhases;
 }
 
 -- ---- pushing
@@ -60,10 +62,6 @@ nextHead h = record {
   index = cond (lastIndex (h .nominal) (h .index)) 0 (h .index + 1);
   place = cond (eqb (h .place) 30) 0 (h .place + 1);
 }
-
--- A sample goes in the next place, which then moves on one
-unfoldable pub stored : Feed → Sample → Feed
-stored f s = record { head = nextHead (f .head); places = withPlace (f .places) (f .head .place) s }
 
 -- a list read round from a place: the samples of the places from the next one on, where all are filled, are then the oldest first
 abbrev pub oldestFirst : {S : Type 0} → ℕ → List S → List S
@@ -82,6 +80,16 @@ historyOf f = record {
   samples = lastOf (f .head .held) (oldestFirst (f .head .place) (samplesOf 31 (f .places)));
 }
 
+-- A sample goes in the next place, which then moves on one
+abbrev pub placed : Feed → Sample → Feed
+placed f s = record { head = nextHead (f .head); places = withPlace (f .places) (f .head .place) s; kept = f .kept }
+
+-- and the three phases move on by one place: the newest centre's comes last, of the samples then held (CR 6)
+unfoldable pub stored : Feed → Sample → Feed
+stored f s =
+    let next : Feed = placed f s in
+    record { head = next .head; places = next .places; kept = movedOn (f .kept) (phaseBack (historyOf next) 0) }
+
 -- 3: slot damaged, as far as its numbers show it; stray bytes are the bank's to find
 abbrev pub faultyHead : Head → Refusal
 faultyHead h = record { number = 3; due = faulty h }
@@ -99,13 +107,23 @@ pub record Next : Type 0 where
   pub answer : Said
   pub feed : Feed
 
--- one sample: refused, and then the feed stays; else it is stored, and answered by the history rule of the samples that the feed then holds
+-- one sample: refused, and then the feed stays; else it is stored, and answered of the samples and the phases that the feed then holds
 unfoldable pub pushed : Feed → Sample → Next
 pushed f s =
     unlessRefused (feedRefusals (f .head))
     (λ n. record { answer = refused n; feed = f })
-    (record { answer = answered (historyOf (stored f s)); feed = stored f s })
+    (record { answer = answeredFrom (historyOf (stored f s)) (stored f s .kept); feed = stored f s })
 
 -- what `Feed::push` promises
 abbrev pub Pushing : Feed → Sample → Pushed → Type 0
 Pushing f s r = record { answer = said (r .answer); feed = r .feed } ≡ pushed f s
+
+-- ---- CR 6: true phases
+
+-- kept phases are true of a feed when they are those that the rule gives for the samples held
+abbrev pub True : Feed → Type 0
+True f = f .kept ≡ phasesOf (historyOf f)
+
+-- the feed with its phases worked out from the samples that it holds; one with faulty numbers stays
+unfoldable pub workedOut : Feed → Feed
+workedOut f = cond (faulty (f .head)) f (record { head = f .head; places = f .places; kept = phasesOf (historyOf f) })

@@ -1,27 +1,34 @@
-// One feed as a value: its head, its thirty-one places, and what a sample does to it.
+// One feed as a value: its head, its thirty-one places, the three phases that it keeps, and what a sample does to it.
 mod places;
 
+use model::Angle;
+use model::Phase;
+use model::Phases;
 use model::Sample;
-use model::measure;
+use model::measure_kept;
+use model::newest_phase;
+use model::phases_of;
 use places::more_held;
 use places::next_place;
 pub use places::place_of;
 use places::put_sample;
 pub use places::sample_of;
 use places::window_from;
+use places::window_with;
 use sampling::kept_rate;
 use sampling::nominal_of;
 use sampling::served_nominal;
 use sampling::served_rate;
 ghost use mathlib.Core.Path.{_≡_};
-ghost use mathlib.Core.Bool.{false};
+ghost use mathlib.Core.Bool.{false, cond};
 ghost use Prim.Native.Nat.{_≤_};
 ghost use Rattle.model.specs.Filter.{lentSamples};
 ghost use Rattle.sampling.specs.Tags.{spacing};
 ghost use Rattle.sampling.specs.Sampling.{samplingOf};
 ghost use Rattle.feed.specs.Answers.{saidReport};
-ghost use Rattle.feed.specs.Ring.{unserved, uneven, early, faulty, opened, endOfTimeOf, nextHead, Pushing};
-ghost use Rattle.feed.specs.Inside.{centreAt, dueWith, reportWith};
+ghost use Rattle.feed.specs.Kept.{zeroPhase, movedOn};
+ghost use Rattle.feed.specs.Ring.{unserved, uneven, early, faulty, opened, endOfTimeOf, nextHead, workedOut, Pushing};
+ghost use Rattle.feed.specs.Inside.{centreAt, dueWith, reportWith, newestWith, phasesWith};
 
 // The numbers of a feed: what it is opened with, how many samples it holds, where the next one stands and where it goes.
 pub struct Head {
@@ -36,10 +43,11 @@ pub struct Head {
 }
 
 // A feed: its head, and thirty-one places of six bytes: a, b and c of a sample, two bytes each, big-endian.
-// The places stay bytes, so that a push reads them only where a report is due.
+// With them the phases at its three newest centres, the oldest first (CR 6).
 pub struct Feed {
     pub head: Head,
     pub places: [u8; 186],
+    pub kept: Phases,
 }
 
 // A report: its tag, then the figures at its centre.
@@ -71,6 +79,35 @@ pub enum Answer {
 pub struct Pushed {
     pub feed: Feed,
     pub answer: Answer,
+}
+
+// Zero, with flag 0: what is kept of a centre until it has 29 samples.
+const ZERO_PHASE: Phase = Phase {
+    angle: Angle { parts: 0 },
+    none: false,
+};
+
+// None of the three newest centres has 29 samples.
+const ZERO_PHASES: Phases = Phases {
+    p: ZERO_PHASE,
+    q: ZERO_PHASE,
+    r: ZERO_PHASE,
+};
+
+// A centre's phase where the centre has 29 samples, else zero.
+fn phase_if(enough: bool, phase: Phase) -> Phase
+    ensures { λ r. ⌜ r ≡ cond enough phase zeroPhase ⌝ }
+{
+    if enough { phase } else { ZERO_PHASE }
+}
+
+// The kept phases moved on by one, with the newest centre's last.
+fn moved_on(kept: Phases, newest: Phase) -> Phases
+    ensures { λ r. ⌜ r ≡ movedOn kept newest ⌝ }
+{
+    let p = kept.q;
+    let q = kept.r;
+    Phases { p, q, r: newest }
 }
 
 // Where a report's centre stands: its SOC, and its index in the second.
@@ -195,15 +232,36 @@ impl Head {
         centre.index % self.spacing() == 0
     }
 
-    // The report that comes with the next sample, of the thirty-one samples then held: tagged with its centre's SOC and frame.
-    fn report(self, window: &[i16; 93]) -> Report
+    // The phase at the newest centre that comes with the next sample, which stands 14 behind it; zero while fewer than 29 are then held.
+    fn newest(self, window: &[i16; 93]) -> Phase
+        requires { ⌜ faulty self ≡ false ⌝ }
+        ensures { λ r. ⌜ r ≡ newestWith self (lentSamples 31 (now (window .entry))) ⌝ }
+    {
+        phase_if(self.held >= 28, newest_phase(window, self.index as usize))
+    }
+
+    // The phases at the three newest centres of the samples held; zero where a centre has not 29. The newest sample stands one before the next,
+    // and so the first of thirty-one stands 31 before it, which is 14 on mod 15.
+    fn held_phases(self, window: &[i16; 93]) -> Phases
+        requires { ⌜ faulty self ≡ false ⌝ }
+        ensures { λ r. ⌜ r ≡ phasesWith self (lentSamples 31 (now (window .entry))) ⌝ }
+    {
+        let all = phases_of(window, self.index as usize + 14);
+        let p = phase_if(self.held >= 31, all.p);
+        let q = phase_if(self.held >= 30, all.q);
+        let r = phase_if(self.held >= 29, all.r);
+        Phases { p, q, r }
+    }
+
+    // The report that comes with the next sample, of the thirty-one samples and the phases then held: tagged with its centre's SOC and frame.
+    fn report(self, window: &[i16; 93], kept: Phases) -> Report
         requires { ⌜ faulty self ≡ false ⌝ }
         requires { ⌜ 30 ≤ self .held ⌝ }
-        ensures { λ r. ⌜ saidReport r ≡ reportWith self (lentSamples 31 (now (window .entry))) ⌝ }
+        ensures { λ r. ⌜ saidReport r ≡ reportWith self (lentSamples 31 (now (window .entry))) kept ⌝ }
     {
         let centre = self.centre();
         let frame = (centre.index / self.spacing()) as u8;
-        let figures = measure(window, self.index as usize, nominal_of(self.nominal));
+        let figures = measure_kept(window, self.index as usize, kept, nominal_of(self.nominal));
         Report {
             soc: centre.soc,
             frame,
@@ -221,8 +279,8 @@ impl Head {
 }
 
 impl Feed {
-    // A feed as it is opened: the nominal, the kept rate, the SOC, index 0, none held, place 0, all places zero. Of an unserved nominal or rate
-    // the numbers are faulty, and each push is refused 3.
+    // A feed as it is opened: the nominal, the kept rate, the SOC, index 0, none held, place 0, all places zero, the kept
+    // phases zero (CR 6). Of an unserved nominal or rate the numbers are faulty, and each push is refused 3.
     pub fn open(nominal: u8, rate: u8, soc: u32) -> Feed
         ensures { λ r. ⌜ r ≡ opened nominal rate soc ⌝ }
     {
@@ -237,11 +295,39 @@ impl Feed {
         Feed {
             head,
             places: [0; 186],
+            kept: ZERO_PHASES,
         }
     }
 
-    // One sample more. Refused 3, 8, and then nothing changes; else it goes in the next place, which then moves on one, and it is taken, with
-    // the report if one is due.
+    // One sample more, where it is not refused: it goes in the next place, which then moves on one, and the kept phases move on by one, with the
+    // newest centre's last (CR 6). The window is read before the sample is stored, since bytes that were just written are slow to read.
+    fn taken(self, s: Sample) -> Pushed
+        requires { ⌜ faulty (self .head) ≡ false ⌝ }
+        requires { ⌜ endOfTimeOf (self .head) .due ≡ false ⌝ }
+        ensures { λ r. ⌜ Pushing self s r ⌝ }
+    {
+        let head = self.head;
+        let mut next = self;
+        let was = next.kept;
+        let window = window_with(&next.places, head.place, s);
+        let kept = moved_on(was, head.newest(&window));
+        put_sample(&mut next.places, head.place, s);
+        next.head = head.next();
+        next.kept = kept;
+        if head.is_due() {
+            let report = head.report(&window, kept);
+            return Pushed {
+                feed: next,
+                answer: Answer::Reported(report),
+            };
+        }
+        Pushed {
+            feed: next,
+            answer: Answer::Taken,
+        }
+    }
+
+    // One sample more: refused 3, 8, and then nothing changes; else it is taken, with the report if one is due.
     pub fn push(self, s: Sample) -> Pushed
         ensures { λ r. ⌜ Pushing self s r ⌝ }
     {
@@ -258,20 +344,20 @@ impl Feed {
                 answer: Answer::Refused(8),
             };
         }
+        self.taken(s)
+    }
+
+    // The feed with its kept phases worked out from the samples that it holds (CR 6); one whose numbers are faulty stays as it is.
+    pub fn worked_out(self) -> Feed
+        ensures { λ r. ⌜ r ≡ workedOut self ⌝ }
+    {
+        let head = self.head;
+        if head.is_faulty() {
+            return self;
+        }
         let mut next = self;
-        put_sample(&mut next.places, head.place, s);
-        next.head = head.next();
-        if head.is_due() {
-            let window = window_from(&next.places, next.head.place);
-            let report = head.report(&window);
-            return Pushed {
-                feed: next,
-                answer: Answer::Reported(report),
-            };
-        }
-        Pushed {
-            feed: next,
-            answer: Answer::Taken,
-        }
+        let window = window_from(&next.places, head.place);
+        next.kept = head.held_phases(&window);
+        next
     }
 }

@@ -98,6 +98,21 @@ pub(crate) fn window_from(places: &[u8], place: u8) -> [i16; 93]
     window
 }
 
+// The samples of the thirty-one places with a sample put in one of them, from the place after it round: it comes last.
+pub(crate) fn window_with(places: &[u8], place: u8, s: Sample) -> [i16; 93]
+    requires { ⌜ (length (now places) ≡ 186) × (place ≤ 30) ⌝ }
+    ensures { λ r. ⌜ lentSamples 31 r ≡ oldestFirst (cond (eqb place 30) 0 (place + 1)) (samplesOf 31 (withPlace (now (places .entry)) place s)) ⌝ }
+{
+    let mut window = window_from(places, next_place(place));
+    let a = s.a;
+    let b = s.b;
+    let c = s.c;
+    window[90] = a;
+    window[91] = b;
+    window[92] = c;
+    window
+}
+
 // A sample put in a place.
 pub(crate) fn put_sample(places: &mut [u8; 186], place: u8, s: Sample)
     requires { ⌜ place ≤ 30 ⌝ }

@@ -48,9 +48,13 @@ module _ (x y : ℕ → Sample) where
     unfolding weighted
     weighted-same table = sum-ext 29 (term table x i) (term table y k) (term-same table)
 
-    positive-same : positive x i ≡ positive y k
+    pub positive-same : positive x i ≡ positive y k
     unfolding positive
     positive-same = λ t. record { re = weighted-same cosines t; im = negℤ (weighted-same sines t) }
+
+    pub phase-same : (scale : Scale) → phaseAt scale x i ≡ phaseAt scale y k
+    unfolding phaseAt
+    phase-same scale = ap (phaseOf (scale .limit)) positive-same
 
   -- at a centre and the two beside it: 31 samples, 15 on either side
   module _ (i k : ℕ) (hi : 15 ≤ i) (hk : 15 ≤ k) (e : i % 15 ≡ k % 15) (same : (j : ℕ) → j < 31 → x (i + j - 15) ≡ y (k + j - 15)) where

@@ -8,12 +8,14 @@ use native.Mathlib.Omega.{arith}
 use lib.IntN.{ℤ, pos, _*ℤ_}
 use lib.ListN.{length, getD, drop, set, length-set}
 use lib.Seq.{getD-drop, getD-set-same, getD-set-other}
-use Rattle.model.specs.Filter.{weight, offset, phaseSum, term, windowed, noSample, lentSamples}
-use Rattle.model.specs.Report.{figuresAt}
+use Rattle.model.specs.Filter.{weight, offset, phaseSum, term, positive, windowed, noSample, lentSamples}
+use Rattle.model.specs.Report.{joined, differences, figuresAt, figuresWith}
+use Rattle.model.specs.declared.filter.Phasor.{Phasor}
 use Rattle.model.specs.declared.filter.Sample.{Sample}
+use Rattle.model.specs.declared.report.Phases.{Phases}
 use Rattle.model.specs.declared.report.Scale.{Scale}
 use Rattle.sampling.specs.declared.Nominal.{Nominal}
-use Rattle.model.proofs.Same.{figures-same}
+use Rattle.model.proofs.Same.{positive-same, figures-same}
 
 -- ---- the numbers as samples
 
@@ -92,6 +94,28 @@ term-at table window n from j =
     let f : n + from + 14 + j - 14 - n ≡ from + j = omega arith in
     λ t. pos (weight (offset j)) *ℤ phaseSum table (getD window (f t) noSample) (e t)
 
+-- the positive sequence of the 29 samples from a place on depends on the first one's index mod 15
+pub positive-placed : (window : List Sample) (m n from : ℕ) → m % 15 ≡ n % 15
+    → positive (windowed window m) (m + from + 14) ≡ positive (windowed window n) (n + from + 14)
+positive-placed window m n from e =
+    positive-same (windowed window m) (windowed window n) (m + from + 14) (n + from + 14) (omega arith) (omega arith) (omega arith)
+    (λ j h. at m j ∙ sym (at n j))
+  where
+    at : (k j : ℕ) → windowed window k (k + from + 14 + j - 14) ≡ getD window (from + j) noSample
+    at k j =
+        let d : k + from + 14 + j - 14 - k ≡ from + j = omega arith in
+        ap (λ (i : ℕ). getD window i noSample) d
+
+-- and so do the figures at the window's centre, where the phases are given
+pub figures-placed : (window : List Sample) (m n c : ℕ) → m % 15 ≡ n % 15 → n + 15 ≡ c → (scale : Scale) (nominal : Nominal) (kept : Phases)
+    → figuresWith scale nominal (windowed window m) (m + 15) kept ≡ figuresWith scale nominal (windowed window n) c kept
+unfolding figuresWith
+figures-placed window m n c e f scale nominal kept =
+    let p : m + 15 ≡ m + 1 + 14 = omega arith in
+    let q : n + 1 + 14 ≡ c = omega arith in
+    let centre = ap (positive (windowed window m)) p ∙ positive-placed window m n 1 e ∙ ap (positive (windowed window n)) q in
+    ap (λ (x : Phasor). joined scale nominal x (differences (kept .p) (kept .q) (kept .r))) centre
+
 -- ---- whole turns of the first sample's index
 module _ (window : List Sample) (index : ℕ) where
   abbrev rest : ℕ
@@ -107,3 +131,7 @@ module _ (window : List Sample) (index : ℕ) where
       → figuresAt scale nominal (windowed window rest) (rest + 15) ≡ figuresAt scale nominal (windowed window index) (index + 15)
   figures-turn =
       figures-same (windowed window rest) (windowed window index) (rest + 15) (index + 15) (omega arith) (omega arith) (turn 15) (λ j h. same-place 15 j)
+
+  -- at the centre of the 29 samples from a place on
+  pub positive-turn : (from i : ℕ) → index + from + 14 ≡ i → positive (windowed window rest) (rest + from + 14) ≡ positive (windowed window index) i
+  positive-turn from i e = positive-placed window rest index from (omega arith) ∙ ap (positive (windowed window index)) e

@@ -12,6 +12,7 @@ use Rattle.model.specs.declared.filter.Sample.{Sample}
 use Rattle.sampling.specs.declared.Nominal.{Nominal}
 use Rattle.model.specs.declared.report.Differences.{Differences}
 use Rattle.model.specs.declared.report.Figures.{Figures}
+use Rattle.model.specs.declared.report.Phases.{Phases}
 use Rattle.model.specs.declared.report.Scale.{Scale}
 use Rattle.bits.specs.Bits.{signed32}
 use Rattle.sampling.specs.Sampling.{sampling}
@@ -76,3 +77,26 @@ figuresAt scale nominal x i = joined scale nominal (positive x i) (differences (
 -- what `measure` answers of 31 samples, the first of which has this index: their centre is 15 after it
 abbrev pub Measuring : List Sample → ℕ → Nominal → Figures → Type 0
 Measuring window index nominal r = r ≡ figuresAt threePhase nominal (windowed window index) (index + 15)
+
+-- ---- CR 6: the phases by themselves, and the figures from phases that are kept
+
+-- what `newest_phase` answers of 31 samples, the first of which has this index: the phase at the newest centre, which stands 14 behind the newest
+-- sample, the 30th after the first
+abbrev pub NewestPhase : List Sample → ℕ → Phase → Type 0
+NewestPhase window index r = r ≡ phaseAt threePhase (windowed window index) (index + 30 - 14)
+
+-- what `phases_of` answers of 31 samples, the first of which has this index: the phases at the three centres that they have, the oldest first
+abbrev pub ThreePhases : List Sample → ℕ → Phases → Type 0
+ThreePhases window index k = k ≡ record {
+  p = phaseAt threePhase (windowed window index) (index + 30 - 16);
+  q = phaseAt threePhase (windowed window index) (index + 30 - 15);
+  r = phaseAt threePhase (windowed window index) (index + 30 - 14);
+}
+
+-- the figures at centre i, where p, q and r are given; re and im are those at the centre
+unfoldable pub figuresWith : Scale → Nominal → (ℕ → Sample) → ℕ → Phases → Figures
+figuresWith scale nominal x i k = joined scale nominal (positive x i) (differences (k .p) (k .q) (k .r))
+
+-- what `measure_kept` answers of 31 samples and three phases
+abbrev pub MeasuringKept : List Sample → ℕ → Phases → Nominal → Figures → Type 0
+MeasuringKept window index kept nominal r = r ≡ figuresWith threePhase nominal (windowed window index) (index + 15) kept

@@ -7,4 +7,8 @@ pub use angle::Angle;
 pub use angle::Phase;
 pub use filter::Sample;
 pub use report::Figures;
+pub use report::Phases;
 pub use report::measure;
+pub use report::measure_kept;
+pub use report::newest_phase;
+pub use report::phases_of;

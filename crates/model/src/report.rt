@@ -9,7 +9,7 @@ use sampling::Nominal;
 ghost use mathlib.Core.Path.{_≡_};
 ghost use Prim.Native.Nat.{_+_, _^_, _≤_, _<_};
 ghost use lib.IntN.{natAbs};
-ghost use Rattle.model.specs.Report.{difference, secondDifference, over, deviationOf, rocofOf, differences, joined, figuresAt, Measuring};
+ghost use Rattle.model.specs.Report.{difference, secondDifference, over, deviationOf, rocofOf, differences, joined, threePhase, phaseAt, figuresAt, Measuring, NewestPhase, ThreePhases, MeasuringKept};
 ghost use Rattle.model.specs.Filter.{windowed, lentSamples};
 ghost use Rattle.model.specs.Bounds.{Small};
 
@@ -27,6 +27,13 @@ pub struct Figures {
     pub deviation: f64,
     // the rate of change of frequency in Hz/s
     pub rocof: f64,
+}
+
+// The phases at three centres in turn, the oldest first: p, q and r of a report.
+pub struct Phases {
+    pub p: Phase,
+    pub q: Phase,
+    pub r: Phase,
 }
 
 // The limit below which re and im have no phase, and the number that each is divided by to give peak counts.
@@ -156,4 +163,43 @@ pub fn measure(window: &[i16; 93], index: usize, nominal: Nominal) -> Figures
     ensures { λ r. ⌜ Measuring (lentSamples 31 (now (window .entry))) index nominal r ⌝ }
 {
     measure_by(window, index % 15, nominal, THREE_PHASE)
+}
+
+// The phase at the centre of the 29 samples of a window from a place on; the window's first sample has this index.
+fn phase_from(window: &[i16; 93], index: usize, from: usize) -> Phase
+    requires { ⌜ from ≤ 2 ⌝ }
+    ensures { λ r. ⌜ r ≡ phaseAt threePhase (windowed (lentSamples 31 (now (window .entry))) index) (index + from + 14) ⌝ }
+{
+    let scale = THREE_PHASE;
+    phase_of(positive_sequence(window, index % 15, from), scale.limit)
+}
+
+// The phase at the newest centre of 31 lent samples, which stands 14 behind the newest (CR 6). The first sample has this index.
+pub fn newest_phase(window: &[i16; 93], index: usize) -> Phase
+    ensures { λ r. ⌜ NewestPhase (lentSamples 31 (now (window .entry))) index r ⌝ }
+{
+    phase_from(window, index, 2)
+}
+
+// The phases at the three centres of 31 lent samples, the oldest first (CR 6). The first sample has this index.
+pub fn phases_of(window: &[i16; 93], index: usize) -> Phases
+    ensures { λ r. ⌜ ThreePhases (lentSamples 31 (now (window .entry))) index r ⌝ }
+{
+    let p = phase_from(window, index, 0);
+    let q = phase_from(window, index, 1);
+    let r = phase_from(window, index, 2);
+    Phases { p, q, r }
+}
+
+// The figures at the centre of 31 lent samples, with p, q and r from the phases that are kept (CR 6). The first sample has this index.
+pub fn measure_kept(window: &[i16; 93], index: usize, kept: Phases, nominal: Nominal) -> Figures
+    ensures { λ r. ⌜ MeasuringKept (lentSamples 31 (now (window .entry))) index kept nominal r ⌝ }
+{
+    let centre = positive_sequence(window, index % 15, 1);
+    join(
+        centre,
+        differences_of(kept.p, kept.q, kept.r),
+        nominal,
+        THREE_PHASE,
+    )
 }

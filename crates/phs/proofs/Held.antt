@@ -13,7 +13,8 @@ use Rattle.feed.specs.declared.Feed.{Feed}
 use Rattle.sampling.specs.Tags.{servedNominal, servedRate, keptRate}
 use Rattle.sampling.proofs.Rates.{kept-again}
 use Rattle.feed.specs.Answers.{refused, done}
-use Rattle.feed.specs.History.{History, opening, Told, told, answered}
+use Rattle.feed.specs.History.{History, opening, Told, told}
+use Rattle.feed.specs.Kept.{answeredFrom}
 use Rattle.feed.specs.Places.{zeros}
 use Rattle.feed.specs.Ring.{opened, stored, historyOf, endOfTimeOf}
 use Rattle.feed.proofs.Stored.{Fits16}
@@ -105,7 +106,7 @@ module _ (bank : List ℕ) (s : Sample) (f : Feed) (whole : length bank ≡ 4096
   unfolding pushedAt
   at-last e = rw (eq-eqb (length bank) 4096 whole, undamaged, not-free, head-is, e)
 
-  at-next : endOfTimeOf (f .head) .due ≡ false → pushedAt bank 0 s ≡ record { answer = answered (historyOf (stored f s)); bank = withSlot bank 0 (slotOf (stored f s)) }
+  at-next : endOfTimeOf (f .head) .due ≡ false → pushedAt bank 0 s ≡ record { answer = answeredFrom (historyOf (stored f s)) (stored f s .kept); bank = withSlot bank 0 (slotOf (stored f s)) }
   unfolding pushedAt
   at-next e = rw (eq-eqb (length bank) 4096 whole, undamaged, not-free, head-is, e, feed-is)
 

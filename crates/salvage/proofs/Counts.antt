@@ -1,5 +1,5 @@
 -- How many bytes differ. Assumes nothing.
-use mathlib.Core.Path.{_≡_, refl}
+use mathlib.Core.Path.{_≡_, refl, ap₂}
 use mathlib.Core.Bool.{Bool, true, false, cond}
 use mathlib.Core.List.{List, [], _∷_}
 use Prim.Native.Nat.{ℕ, suc, _+_, _≤_, _<_}
@@ -8,7 +8,7 @@ use native.Mathlib.Numerals.{add-one}
 use lib.Dec.{eqb}
 use lib.ListN.{length, getD, drop}
 use lib.Seq.{drop-cons}
-use borrow.Author.Tests.{eq-eqb}
+use borrow.Author.Tests.{eq-eqb, eqb-true}
 use Rattle.salvage.specs.Slots.{differing}
 
 -- nothing differs from itself
@@ -16,6 +16,18 @@ pub differing-none : (s : List ℕ) → differing s s ≡ 0
 unfolding differing
 differing-none [] = refl
 differing-none (b ∷ s) = rw (eq-eqb b b refl, differing-none s)
+
+-- where none differ, they are the same
+pub none-differing : (before after : List ℕ) → length before ≡ length after → differing before after ≡ 0 → before ≡ after
+unfolding differing
+none-differing [] [] size e = refl
+none-differing [] (a ∷ after) size e = absurd (omega arith)
+none-differing (b ∷ before) [] size e = absurd (omega arith)
+none-differing (b ∷ before) (a ∷ after) size e = go (eqb b a) refl e (none-differing before after (omega arith))
+  where
+    go : (t : Bool) → eqb b a ≡ t → cond t 0 1 + differing before after ≡ 0 → (differing before after ≡ 0 → before ≡ after) → b ∷ before ≡ a ∷ after
+    go true t f rest = ap₂ (λ (x : ℕ) (l : List ℕ). x ∷ l) (eqb-true b a t) (rest (omega arith))
+    go false t f rest = absurd (omega arith)
 
 -- no more differ than there are
 pub differing-most : (before after : List ℕ) → differing before after ≤ length before

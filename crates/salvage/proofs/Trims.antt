@@ -1,4 +1,4 @@
--- A trimmed slot: zeros after the filled places. Its numbers are as they were, and no byte is stray. Assumes nothing.
+-- A trimmed slot: zeros after the filled places. Its numbers are as they were, and with its angles worked out it is not damaged. Assumes nothing.
 use mathlib.Core.Path.{_≡_, sym, _∙_, ap}
 use mathlib.Core.Bool.{true, false}
 use mathlib.Core.List.{List, _++_}
@@ -7,12 +7,16 @@ use native.Mathlib.Omega.{arith}
 use lib.ListN.{length, getD, take, drop, length-append, length-replicate, replicate-append-replicate, List·getD-append}
 use lib.Seq.{take-at, drop-at, take-length, take-append-le, take-take, getD-take, drop-drop, length-take-le}
 use Rattle.feed.specs.Places.{zeros}
-use Rattle.feed.specs.Ring.{faulty}
-use Rattle.bank.specs.Slot.{stateIn, headIn, placesIn, tailIn, freeSlot}
-use Rattle.bank.specs.Damage.{stray, isDamaged, onlyStray}
+use Rattle.feed.specs.Ring.{faulty, nextNumberOf, historyOf}
+use Rattle.feed.proofs.Sound.{sound}
+use Rattle.bank.specs.Slot.{stateIn, headIn, placesIn, tailIn, feedIn, freeSlot, workedOutIn}
+use Rattle.bank.specs.Damage.{isDamaged, onlyStray}
 use Rattle.bank.proofs.Blank.{zeros-blank}
 use Rattle.bank.proofs.Slots.{drop-take}
-use Rattle.bank.proofs.States.{only-stray, or-not, open-damaged}
+use Rattle.bank.proofs.Parts.{places-length}
+use Rattle.bank.proofs.Held.{held-same}
+use Rattle.bank.proofs.States.{only-stray}
+use Rattle.bank.proofs.Angles.{worked-sound}
 use Rattle.salvage.specs.Slots.{filledTo, trimmed}
 use Rattle.salvage.proofs.Fates.{stray-held}
 
@@ -56,7 +60,7 @@ module _ (s : List ℕ) (size : length s ≡ 256) (held : headIn s .held ≤ 31)
       List·getD-append (take kept s) (zeros (256 - kept)) 0 i (omega (arith, front))
       ∙ getD-take kept s i 0 (omega arith)
 
-  same-head : headIn (trimmed s) ≡ headIn s
+  pub same-head : headIn (trimmed s) ≡ headIn s
   unfolding headIn
   same-head =
       rw (
@@ -102,24 +106,43 @@ module _ (s : List ℕ) (size : length s ≡ 256) (held : headIn s .held ≤ 31)
       ∙ ap (λ (l : List ℕ). take (186 - h) l) (drop-drop h 11 t ∙ rest)
       ∙ zeros-front (186 - h) 59 (256 - kept) (omega (arith, held))
 
-  pub tail-zero : tailIn (trimmed s) ≡ zeros 59
+  pub tail-zero : tailIn (trimmed s) ≡ zeros 44
   unfolding tailIn
   tail-zero =
       let h : ℕ = 6 * headIn s .held in
       let t : List ℕ = trimmed s in
-      ap (λ (n : ℕ). drop n t) (let e : 197 ≡ kept + (186 - h) = omega (arith, held) in e)
-      ∙ sym (drop-drop (186 - h) kept t)
-      ∙ ap (λ (l : List ℕ). drop (186 - h) l) rest
-      ∙ zeros-rest (186 - h) 59 (256 - kept) (omega (arith, held))
+      ap (λ (n : ℕ). drop n t) (let e : 212 ≡ kept + (201 - h) = omega (arith, held) in e)
+      ∙ sym (drop-drop (201 - h) kept t)
+      ∙ ap (λ (l : List ℕ). drop (201 - h) l) rest
+      ∙ zeros-rest (201 - h) 44 (256 - kept) (omega (arith, held))
 
-  none-stray : stray (trimmed s) ≡ false
-  unfolding stray
-  none-stray = rw (same-head, unfilled-zero, tail-zero, zeros-blank (186 - 6 * headIn s .held), zeros-blank 59)
+-- the samples held are the same, so what the rule gives for them is too
+module _ (s : List ℕ) (size : length s ≡ 256) (e : onlyStray s ≡ true) where
+  held : headIn s .held ≤ 31
+  held = stray-held s e
 
-pub trimmed-sound : (s : List ℕ) → length s ≡ 256 → onlyStray s ≡ true → isDamaged (trimmed s) ≡ false
-trimmed-sound s size e =
-    let held = stray-held s e in
-    let one : stateIn (trimmed s) ≡ 1 = low s size held 0 (omega arith) ∙ only-stray s e .one in
-    open-damaged (trimmed s) one
-    ∙ or-not _ (ap faulty (same-head s size held) ∙ only-stray s e .faultless)
-    ∙ none-stray s size held
+  pub trimmed-open : stateIn (trimmed s) ≡ 1
+  trimmed-open = low s size held 0 (omega arith) ∙ only-stray s e .one
+
+  pub trimmed-faultless : faulty (headIn (trimmed s)) ≡ false
+  trimmed-faultless = ap faulty (same-head s size held) ∙ only-stray s e .faultless
+
+  pub same-samples : historyOf (feedIn (trimmed s)) ≡ historyOf (feedIn s)
+  unfolding historyOf feedIn
+  same-samples =
+      let n = sound (headIn s) (only-stray s e .faultless) in
+      rw (same-head s size held)
+      (λ i. record {
+        nominal = headIn s .nominal;
+        rate = headIn s .rate;
+        first = nextNumberOf (headIn s) - headIn s .held;
+        samples = held-same (headIn s) n (placesIn (trimmed s)) (placesIn s)
+            (places-length (trimmed s) (trimmed-length s size held)) (places-length s size) (filled-stay s size held) i;
+      })
+
+  -- trimmed, and its angles worked out
+  pub trimmed-sound : isDamaged (workedOutIn (trimmed s)) ≡ false
+  trimmed-sound =
+      worked-sound (trimmed s) trimmed-open trimmed-faultless (trimmed-length s size held)
+      (rw (same-head s size held, unfilled-zero s size held) (zeros-blank (186 - 6 * headIn s .held)))
+      (rw (tail-zero s size held) (zeros-blank 44))

@@ -1,4 +1,4 @@
-// Document 02, CR 3: the salvage of a bank image in lent bytes, slot by slot.
+// Document 02, CR 3 with CR 6: the salvage of a bank image in lent bytes, slot by slot.
 mod slot;
 
 use slot::mend_slot;
@@ -10,7 +10,7 @@ ghost use Rattle.salvage.specs.Image.{mendedImage, toldOf, allSound, Men
 pub enum Fate {
     // it stays as it is
     Sound,
-    // its unfilled places and the bytes after byte 196 are set to zero
+    // its unfilled places and the bytes after byte 211 are set to zero, and its angles are worked out (CR 6)
     Trimmed,
     // all of it is set to zero
     Closed,

@@ -1,15 +1,17 @@
-// Document 02, CR 3, of one slot: what becomes of it, and how many of its bytes differ from before.
+// Document 02, CR 3 with CR 6, of one slot: what becomes of it, and how many of its bytes differ from before.
 use crate::Fate;
 use crate::MendedSlot;
 use bank::Damage;
 use bank::damage_of;
+use bank::worked_out;
 ghost use mathlib.Core.Path.{_≡_};
 ghost use mathlib.Core.Bool.{cond};
 ghost use Prim.Native.Nat.{_≤_};
 ghost use lib.Dec.{eqb};
 ghost use lib.ListN.{length, getD};
 ghost use Rattle.bank.specs.Slot.{freeSlot};
-ghost use Rattle.salvage.specs.Slots.{fateOf, trimmed, leftBy, mendedSlot, differing, told};
+ghost use Rattle.bank.specs.Damage.{damageOf};
+ghost use Rattle.salvage.specs.Slots.{fateBy, trimmed, leftBy, mendedSlot, differing, told};
 
 // A free slot: all zero.
 fn free_slot() -> [u8; 256]
@@ -28,13 +30,12 @@ fn read(slot: &[u8]) -> [u8; 256]
     bytes
 }
 
-// What becomes of a slot, by its damage.
-fn fate_of(slot: [u8; 256]) -> Fate
-    ensures { λ r. ⌜ r ≡ fateOf slot ⌝ }
+// What becomes of a slot, by its damage and by whether it is altered.
+fn fate_by(damage: Damage, altered: bool) -> Fate
+    ensures { λ r. ⌜ r ≡ fateBy damage altered ⌝ }
 {
-    let damage = damage_of(slot);
     match damage {
-        Damage::None => Fate::Sound,
+        Damage::None => { if altered { Fate::Trimmed } else { Fate::Sound } }
         Damage::Stray => Fate::Trimmed,
         Damage::Other => Fate::Closed,
     }
@@ -51,15 +52,15 @@ fn trim(slot: [u8; 256]) -> [u8; 256]
     bytes
 }
 
-// What a slot of this fate is left with.
-fn left_by(fate: Fate, slot: [u8; 256]) -> [u8; 256]
-    requires { ⌜ fate ≡ fateOf slot ⌝ }
-    ensures { λ r. ⌜ r ≡ leftBy fate slot ⌝ }
+// What a slot so damaged is left with: where it is not closed, its angles are worked out.
+fn left_by(damage: Damage, slot: [u8; 256]) -> [u8; 256]
+    requires { ⌜ damage ≡ damageOf slot ⌝ }
+    ensures { λ r. ⌜ r ≡ leftBy damage slot ⌝ }
 {
-    match fate {
-        Fate::Sound => slot,
-        Fate::Trimmed => trim(slot),
-        Fate::Closed => free_slot(),
+    match damage {
+        Damage::None => worked_out(slot),
+        Damage::Stray => worked_out(trim(slot)),
+        Damage::Other => free_slot(),
     }
 }
 
@@ -90,9 +91,10 @@ pub(crate) fn mend_slot(slot: &mut [u8]) -> MendedSlot
     ensures { λ r. ⌜ (r ≡ told (now (slot .entry))) × (now (slot .exit) ≡ mendedSlot (now (slot .entry))) ⌝ }
 {
     let before = read(slot);
-    let fate = fate_of(before);
-    let after = left_by(fate, before);
+    let damage = damage_of(before);
+    let after = left_by(damage, before);
     bytes::copy(&after, slot);
     let differing = count(&before, &after);
+    let fate = fate_by(damage, differing != 0);
     MendedSlot { fate, differing }
 }

@@ -4,7 +4,7 @@ use mathlib.Core.Path.{_∙_, ap}
 use Prim.Native.Nat.{ℕ, _-_}
 use lib.ListN.{getD, take, drop}
 use Rattle.bank.specs.Slot.{headIn}
-use Rattle.bank.specs.Damage.{blank, stray}
+use Rattle.bank.specs.Damage.{blank, flagOver, stray}
 use Rattle.bank.proofs.Stray.{unfilled-scan, tail-scan}
 use Rattle.bank.proofs.damage.is_stray.Statement.{statement}
 use Rattle.bank.proofs.damage.is_stray.Tie as tie
@@ -39,15 +39,25 @@ part-is-blank-end-2 c = search needs
 is-blank-requires-2 : tie.Need-is-blank-requires-2
 is-blank-requires-2 c κs = search needs
 
+shared-slice-read-flags : tie.Need-shared-slice-read-flags
+shared-slice-read-flags c = search needs
+
+shared-slice-read-flags-2 : tie.Need-shared-slice-read-flags-2
+shared-slice-read-flags-2 c = search needs
+
+shared-slice-read-flags-3 : tie.Need-shared-slice-read-flags-3
+shared-slice-read-flags-3 c = search needs
+
 returns : tie.Need-returns
-unfolding stray headIn
+unfolding stray flagOver headIn
 returns c =
-    let start = c .before .before .before .before .before .before .before in
+    let b = c .before .before .before in
+    let from = b .before .before .before .before .unfilled-from in
+    let start = b .before .before .before .before .before .before .before in
     let s = start .args .s .now in
-    let from = c .before .before .before .before .unfilled-from in
     let scan = ap (λ (n : ℕ). take (197 - n) (drop n s)) (from .ensures .0) ∙ unfilled-scan s (start .pre) (getD s 3 0) in
-    let first = c .before .before .is-blank .ensures ∙ ap blank scan in
-    let rest = c .is-blank2 .ensures ∙ ap blank (tail-scan s (start .pre)) in
+    let first = b .before .before .is-blank .ensures ∙ ap blank scan in
+    let rest = b .is-blank2 .ensures ∙ ap blank (tail-scan s (start .pre)) in
     rw (first, rest)
 
 pub is-stray-spec : {M : Type 1} → statement M
@@ -64,4 +74,7 @@ is-stray-spec =
     part-is-blank-start-2
     part-is-blank-end-2
     is-blank-requires-2
+    shared-slice-read-flags
+    shared-slice-read-flags-2
+    shared-slice-read-flags-3
     returns)

@@ -43,8 +43,8 @@ enum-known-answer c = search needs
 put-back-requires : tie.Need-put-back-requires
 unfolding headIn
 put-back-requires c κs =
-    let start = c .before .before .before .before .before .before .before .before .before .before .before in
-    (start .pre .0, no-stray-nor-over (start .args .slot .now) (c .before .before .before .before .before .before .before .is-stray .ensures) (c .before .before .before .before .before .before .if1 .left) .1)
+    let start = c .before .before .before .before .before .before .before .before .before .before .before .before in
+    (start .pre .0, no-stray-nor-over (start .args .slot .now) (c .before .before .before .before .before .before .before .before .is-stray .ensures) (c .before .before .before .before .before .before .before .if1 .left) .1)
 
 same-length-2 : tie.Need-same-length-2
 same-length-2 c = search needs
@@ -52,13 +52,14 @@ same-length-2 c = search needs
 returns-2 : tie.Need-returns-2
 unfolding headIn
 returns-2 c = λ bank slot l.
-    let start = c .before .before .before .before .before .before .before .before .before .before .before .before in
+    let push = c .before .before .before .before .before in
+    let start = push .before .before .before .before .before .before .before .before in
     let s = start .args .slot .now in
     let v = start .args .s in
-    let push = c .before .before .before .before .push in
-    let both = no-stray-nor-over s (c .before .before .before .before .before .before .before .before .is-stray .ensures) (c .before .before .before .before .before .before .before .if1 .left) in
-    ap (λ (a : Answer). record { answer = said a; bank = withSlot bank slot (left (said a) s (written s v (push .result .feed .head))) }) (sym (c .before .answer .given .1))
-    ∙ through l (start .pre .0) (start .pre .1) (both .0) (both .1) v (push .result) (c .before .before .before .before .before .read-feed .ensures) (push .ensures)
+    let both = no-stray-nor-over s (push .before .before .before .before .is-stray .ensures) (push .before .before .before .if1 .left) in
+    let r = push .push .result in
+    ap (λ (a : Answer). record { answer = said a; bank = withSlot bank slot (left (said a) s (written s v (r .feed))) }) (sym (c .before .answer .given .1))
+    ∙ through l (start .pre .0) (start .pre .1) (both .0) (both .1) v r (push .before .read-feed .ensures) (push .push .ensures)
 
 same-length-3 : tie.Need-same-length-3
 same-length-3 c = search needs
@@ -66,14 +67,15 @@ same-length-3 c = search needs
 returns-3 : tie.Need-returns-3
 unfolding headIn
 returns-3 c = λ bank slot l.
-    let start = c .before .before .before .before .before .before .before .before .before .before .before .before .before .before in
+    let push = c .before .before .before .before .before .before .before in
+    let start = push .before .before .before .before .before .before .before .before in
     let s = start .args .slot .now in
     let v = start .args .s in
-    let push = c .before .before .before .before .before .before .push in
-    let both = no-stray-nor-over s (c .before .before .before .before .before .before .before .before .before .before .is-stray .ensures) (c .before .before .before .before .before .before .before .before .before .if1 .left) in
-    let put = c .before .before .put-back .ensures ∙ sym (left-taken (push .result .answer) s _ (c .before .before .before .before .match .keys2)) in
-    (λ i. record { answer = said (push .result .answer); bank = withSlot bank slot (put i) })
-    ∙ through l (start .pre .0) (start .pre .1) (both .0) (both .1) v (push .result) (c .before .before .before .before .before .before .before .read-feed .ensures) (push .ensures)
+    let both = no-stray-nor-over s (push .before .before .before .before .is-stray .ensures) (push .before .before .before .if1 .left) in
+    let r = push .push .result in
+    let put = c .before .before .put-back .ensures ∙ sym (left-taken (r .answer) s _ (c .before .before .before .before .match .keys2)) in
+    (λ i. record { answer = said (r .answer); bank = withSlot bank slot (put i) })
+    ∙ through l (start .pre .0) (start .pre .1) (both .0) (both .1) v r (push .before .read-feed .ensures) (push .push .ensures)
 
 pub push-open-spec : {M : Type 1} → statement M
 push-open-spec =

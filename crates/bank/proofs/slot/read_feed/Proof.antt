@@ -1,6 +1,6 @@
 -- `bank::slot::read_feed` meets its contract. Assumes nothing.
-use borrow.Author.Needs.{needs}
 use Rattle.bank.specs.Slot.{feedIn}
+use borrow.Author.Needs.{needs}
 use Rattle.bank.proofs.slot.read_feed.Statement.{statement}
 use Rattle.bank.proofs.slot.read_feed.Tie as tie
 
@@ -10,9 +10,13 @@ read-head-requires c κs = search needs
 read-places-requires : tie.Need-read-places-requires
 read-places-requires c κs = search needs
 
+read-kept-requires : tie.Need-read-kept-requires
+read-kept-requires c κs = search needs
+
 returns : tie.Need-returns
 unfolding feedIn
-returns c = rw (c .before .read-head .ensures, c .read-places .ensures)
+returns c = rw (c .before .before .read-head .ensures, c .before .read-places .ensures, c .read-kept .ensures)
 
 pub read-feed-spec : {M : Type 1} → statement M
-read-feed-spec = tie.close (tie.spec read-head-requires read-places-requires returns)
+read-feed-spec =
+    tie.close (tie.spec read-head-requires read-places-requires read-kept-requires returns)

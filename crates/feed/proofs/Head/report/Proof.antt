@@ -8,7 +8,7 @@ use mir.Val.{SFits}
 use mir.Facts.{toZ-ofZ}
 use Rattle.sampling.specs.declared.Nominal.{Nominal}
 use Rattle.model.specs.Filter.{windowed, lentSamples}
-use Rattle.model.specs.Report.{figuresAt, threePhase}
+use Rattle.model.specs.Report.{figuresWith, threePhase}
 use Rattle.sampling.specs.Tags.{nominalOf}
 use Rattle.sampling.specs.Sampling.{samplingOf}
 use Rattle.feed.specs.Answers.{tagged}
@@ -41,26 +41,27 @@ cast-frame c =
     rw (c .before .before .centre .ensures, c .before .spacing .ensures)
     (record { fits = omega (arith, frame-below (h .nominal) (h .rate) (centreAt h .index) v i, v .fast) })
 
-cast-measure : tie.Need-cast-measure
-cast-measure c = search needs
+cast-measure-kept : tie.Need-cast-measure-kept
+cast-measure-kept c = search needs
 
 nominal-of-requires : tie.Need-nominal-of-requires
 nominal-of-requires c κs = search needs
 
-measure-requires : tie.Need-measure-requires
-measure-requires c κs = search needs
+measure-kept-requires : tie.Need-measure-kept-requires
+measure-kept-requires c κs = search needs
 
 returns : tie.Need-returns
 unfolding reportWith tagged
 returns c =
     let start = c .before .before .before .before .before .before .before in
-    let m = c .before .measure in
+    let m = c .before .measure-kept in
+    let k = start .args .kept in
     let h = start .args .self in
     let w = lentSamples 31 (start .args .window .now) in
-    let figures : m .result ≡ figuresAt threePhase (nominalOf (h .nominal)) (windowed w (nextNumberOf h - 30)) (centreNumber h) =
+    let figures : m .result ≡ figuresWith threePhase (nominalOf (h .nominal)) (windowed w (nextNumberOf h - 30)) (centreNumber h) k =
     m .ensures
-    ∙ ap (λ (n : Nominal). figuresAt threePhase n (windowed w (h .index)) (h .index + 15)) (c .before .before .nominal-of .ensures)
-    ∙ by-newest (nominalOf (h .nominal)) w h (sound h (start .pre .0)) (start .pre .1) in
+    ∙ ap (λ (n : Nominal). figuresWith threePhase n (windowed w (h .index)) (h .index + 15) k) (c .before .before .nominal-of .ensures)
+    ∙ by-newest (nominalOf (h .nominal)) w k h (sound h (start .pre .0)) (start .pre .1) in
     let re : SFits w64 (m .result .re) = search needs in
     let im : SFits w64 (m .result .im) = search needs in
     let d1 : SFits w32 (m .result .d1) = search needs in
@@ -83,7 +84,7 @@ report-spec =
     spacing-requires
     div-frame
     cast-frame
-    cast-measure
+    cast-measure-kept
     nominal-of-requires
-    measure-requires
+    measure-kept-requires
     returns)
