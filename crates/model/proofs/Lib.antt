@@ -5,6 +5,7 @@ pub mod Tables
 pub mod Small
 pub mod Same
 pub mod Weights
+pub mod Level
 pub mod Summing
 pub mod Stepping
 pub mod Quadrant

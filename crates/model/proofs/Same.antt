@@ -1,5 +1,5 @@
--- What the figures depend on: the samples around the centre, and the centre's index mod 15, since one term after the other meets the same entries.
--- Assumes nothing.
+-- What the figures depend on: the samples around the centre, the centre's index mod 15, since one term after the other meets the same entries, and
+-- of a table its entries. Assumes nothing.
 use mathlib.Core.Path.{_≡_, sym, _∙_, ap}
 use mathlib.Core.List.{List}
 use Prim.Native.Nat.{ℕ, _+_, _-_, _%_, _≤_, _<_}
@@ -7,7 +7,7 @@ use native.Mathlib.Omega.{arith}
 use lib.IntN.{ℤ, pos, negℤ, _+ℤ_, _*ℤ_}
 use lib.ListN.{getD}
 use Rattle.ints.proofs.Sum.{sum-ext}
-use Rattle.model.specs.Filter.{weight, offset, phaseSum, term, weighted, positive, cosines, sines}
+use Rattle.model.specs.Filter.{weight, offset, entryAt, phaseSum, term, weighted, positive, cosines, sines}
 use Rattle.model.specs.Report.{joined, differences, phaseAt, figuresAt}
 use Rattle.model.specs.Angle.{phaseOf}
 use Rattle.model.specs.declared.filter.Sample.{Sample}
@@ -32,6 +32,14 @@ phase-sum-same table s m n e =
     let f = later-same m n 10 e in
     let g = later-same m n 5 e in
     λ t. s .a *ℤ getD table (e t) (pos 0) +ℤ s .b *ℤ getD table (f t) (pos 0) +ℤ s .c *ℤ getD table (g t) (pos 0)
+
+-- tables with the same entries
+pub weighted-entries : (t u : List ℤ) → ((n : ℕ) → entryAt t n ≡ entryAt u n) → (x : ℕ → Sample) (i : ℕ) → weighted t x i ≡ weighted u x i
+unfolding weighted term phaseSum
+weighted-entries t u e x i = sum-ext 29 (term t x i) (term u x i) (λ j h. one (i + j - 14) (pos (weight (offset j))))
+  where
+    one : (n : ℕ) (g : ℤ) → g *ℤ phaseSum t (x n) n ≡ g *ℤ phaseSum u (x n) n
+    one n g = λ k. g *ℤ (x n .a *ℤ e n k +ℤ x n .b *ℤ e (n + 10) k +ℤ x n .c *ℤ e (n + 5) k)
 
 module _ (x y : ℕ → Sample) where
   -- at a centre: 29 samples, 14 on either side

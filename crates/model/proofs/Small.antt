@@ -11,11 +11,11 @@ use mir.Syntax.{w16}
 use mir.Val.{SFits}
 use Rattle.ints.proofs.Size.{size-add, size-mul-le, size-neg}
 use Rattle.ints.proofs.Sum.{sum-size}
-use Rattle.model.specs.Bounds.{Sized, Small}
+use Rattle.model.specs.Bounds.{weights, Sized, Small}
 use Rattle.model.specs.Filter.{weight, offset, phaseSum, term, weighted, positive, cosines, sines, entryAt}
 use Rattle.model.specs.declared.filter.Sample.{Sample}
 use Rattle.model.proofs.Tables.{Trios, cos-trios, sin-trios}
-use Rattle.model.proofs.Weights.{weights, weights-all}
+use Rattle.model.proofs.Weights.{weights-all}
 
 -- none of a sample's three numbers is larger in size than m
 pub record Counts (m : ℕ) (s : Sample) : Type 0 where
@@ -27,8 +27,9 @@ pub record Counts (m : ℕ) (s : Sample) : Type 0 where
 abbrev pub CountsAt : ℕ → (ℕ → Sample) → ℕ → Type 0
 CountsAt m x i = (j : ℕ) → j < 29 → Counts m (x (i + j - 14))
 
-module _ (m : ℕ) (table : List ℤ) (h : Trios table) where
-  phase-sum-size : (s : Sample) → Counts m s → (n : ℕ) → natAbs (phaseSum table s n) ≤ m * 32768
+-- samples of at most m against three entries of at most `most` together
+module _ (m most : ℕ) (table : List ℤ) (h : Trios most table) where
+  pub phase-sum-size : (s : Sample) → Counts m s → (n : ℕ) → natAbs (phaseSum table s n) ≤ m * most
   unfolding phaseSum
   phase-sum-size s w n =
       let x = entryAt table n in
@@ -40,24 +41,24 @@ module _ (m : ℕ) (table : List ℤ) (h : Trios table) where
       let c = size-mul-le (s .c) z (w .c-size) (le-refl (natAbs z)) in
       omega (arith, size-add (s .a *ℤ x +ℤ s .b *ℤ y) (s .c *ℤ z), size-add (s .a *ℤ x) (s .b *ℤ y), a, b, c, apart, mul-le-mul-left m (h n))
 
-  weighted-size : (x : ℕ → Sample) (i : ℕ) → CountsAt m x i → natAbs (weighted table x i) ≤ 225 * (m * 32768)
+  weighted-size : (x : ℕ → Sample) (i : ℕ) → CountsAt m x i → natAbs (weighted table x i) ≤ 225 * (m * most)
   unfolding weighted term weights
   weighted-size x i w =
-      let total = sum-size 29 (term table x i) (λ (j : ℕ). weights j * (m * 32768)) (λ j l. grown j (one j l)) in
-      subst (λ (n : ℕ). natAbs (weighted table x i) ≤ n * (m * 32768)) weights-all total
+      let total = sum-size 29 (term table x i) (λ (j : ℕ). weights j * (m * most)) (λ j l. grown j (one j l)) in
+      subst (λ (n : ℕ). natAbs (weighted table x i) ≤ n * (m * most)) weights-all total
     where
-      one : (j : ℕ) → j < 29 → natAbs (pos (weight (offset j)) *ℤ phaseSum table (x (i + j - 14)) (i + j - 14)) ≤ weight (offset j) * (m * 32768)
+      one : (j : ℕ) → j < 29 → natAbs (pos (weight (offset j)) *ℤ phaseSum table (x (i + j - 14)) (i + j - 14)) ≤ weight (offset j) * (m * most)
       one j l = size-mul-le (pos (weight (offset j))) (phaseSum table (x (i + j - 14)) (i + j - 14)) (le-refl (weight (offset j))) (phase-sum-size (x (i + j - 14)) (w j l) (i + j - 14))
 
-      grown : (j : ℕ) {k : ℕ} → k ≤ weight (offset j) * (m * 32768) → weights j * (m * 32768) + k ≤ (weights j + weight (offset j)) * (m * 32768)
-      grown j p = omega (arith, add-mul (weights j) (weight (offset j)) (m * 32768))
+      grown : (j : ℕ) {k : ℕ} → k ≤ weight (offset j) * (m * most) → weights j * (m * most) + k ≤ (weights j + weight (offset j)) * (m * most)
+      grown j p = omega (arith, add-mul (weights j) (weight (offset j)) (m * most))
 
 pub positive-size : (m : ℕ) (x : ℕ → Sample) (i : ℕ) → CountsAt m x i → Sized (225 * (m * 32768)) (positive x i .re) (positive x i .im)
 unfolding positive
 positive-size m x i w =
     record {
-      re-size = weighted-size m cosines cos-trios x i w;
-      im-size = subst (λ (n : ℕ). n ≤ 225 * (m * 32768)) (sym (size-neg (weighted sines x i))) (weighted-size m sines sin-trios x i w);
+      re-size = weighted-size m 32768 cosines cos-trios x i w;
+      im-size = subst (λ (n : ℕ). n ≤ 225 * (m * 32768)) (sym (size-neg (weighted sines x i))) (weighted-size m 32768 sines sin-trios x i w);
     }
 
 -- a sample of three signed 16-bit numbers
@@ -66,11 +67,11 @@ pub record Words (s : Sample) : Type 0 where
   pub b-fits : SFits w16 (s .b)
   pub c-fits : SFits w16 (s .c)
 
+pub word-counts : (s : Sample) → Words s → Counts 32768 s
+word-counts s f =
+    record { a-size = natAbs-le (s .a) (f .a-fits .sfits); b-size = natAbs-le (s .b) (f .b-fits .sfits); c-size = natAbs-le (s .c) (f .c-fits .sfits) }
+
 pub positive-small : (x : ℕ → Sample) (i : ℕ) → ((j : ℕ) → j < 29 → Words (x (i + j - 14))) → Small (positive x i)
 positive-small x i w =
-    let s = positive-size 32768 x i (λ j l. counts (x (i + j - 14)) (w j l)) in
+    let s = positive-size 32768 x i (λ j l. word-counts (x (i + j - 14)) (w j l)) in
     record { re-size = omega (arith, s .re-size); im-size = omega (arith, s .im-size) }
-  where
-    counts : (s : Sample) → Words s → Counts 32768 s
-    counts s f =
-        record { a-size = natAbs-le (s .a) (f .a-fits .sfits); b-size = natAbs-le (s .b) (f .b-fits .sfits); c-size = natAbs-le (s .c) (f .c-fits .sfits) }

@@ -11,11 +11,12 @@ use mir.Syntax.{w64}
 use mir.Val.{SFits, toZ, ofZ}
 use Rattle.ints.specs.Whole.{sum}
 use Rattle.ints.proofs.Size.{size-add}
-use Rattle.ints.proofs.Signed.{Exp, local, whole, _⊕_, at, fits, sized}
+use Rattle.ints.proofs.Signed.{Exp, local, whole, _⊕_, at, fits}
+use Rattle.model.specs.Bounds.{weights, FirstTerms}
 use Rattle.model.specs.Filter.{weight, offset, phaseSum, term, weighted, windowed, noSample}
 use Rattle.model.specs.declared.filter.Sample.{Sample}
 use Rattle.model.proofs.Same.{phase-sum-same}
-use Rattle.model.proofs.Weights.{weights, weights-all, weights-more, weights-within, weight-within, sum-more}
+use Rattle.model.proofs.Weights.{weights-all, weights-more, weights-within, weight-within, sum-more}
 use Rattle.model.proofs.Windows.{term-at}
 
 module _ (table : List ℤ) (window : List Sample) (n from : ℕ) where
@@ -27,16 +28,22 @@ module _ (table : List ℤ) (window : List Sample) (n from : ℕ) where
     pub is : held ≡ ofZ w64 (sum j f)
     pub small : natAbs (sum j f) ≤ weights j * 1610612736
 
-  pub holds-none : Holds 0 0
+  -- none yet
+  pub first-none : FirstTerms table window n from 0 (pos 0)
   unfolding sum weights
-  holds-none = record { is = refl; small = lit≤ tt }
+  first-none = record { is = refl; small = lit≤ tt }
+
+  -- a local that begins with the first j
+  pub holds-first : (j k : ℕ) (z : ℤ) → j ≡ k → FirstTerms table window n from j z → Holds (ofZ w64 z) k
+  holds-first j k z e t =
+      subst (Holds (ofZ w64 z)) e (record { is = ap (ofZ w64) (t .is); small = subst (λ (y : ℤ). natAbs y ≤ weights j * 1610612736) (t .is) (t .small) })
 
   -- one term more, x: the sum does not overflow, and the local then holds it
   abbrev pub More : ℕ → ℕ → ℤ → Type 0
   More held j x = let z = toZ w64 held +ℤ toZ w64 (ofZ w64 x) in SFits w64 z × Holds (ofZ w64 z) (j + 1)
 
   -- it does where x is the term of the sample at place from + j, which meets entry m
-  module _ (held j m : ℕ) (x : ℤ) (h : Holds held j) (inside : j < 29) (e : m ≡ (n + from + j) % 15)
+  module _ (held j m : ℕ) (x : ℤ) (h : Holds held j) (inside : j < 29) (e : m % 15 ≡ (n + from + j) % 15)
       (x-is : x ≡ pos (weight (offset j)) *ℤ phaseSum table (getD window (from + j) noSample) m) (x-small : natAbs x ≤ weight (offset j) * 1610612736) where
     abbrev before : Exp w64
     before = local held (sum j f) 700616540160 (h .is) (omega (arith, h .small, weights-within j))
@@ -46,8 +53,7 @@ module _ (table : List ℤ) (window : List Sample) (n from : ℕ) where
 
     term-is : x ≡ f j
     term-is =
-        let g : m % 15 ≡ (n + from + j) % 15 = omega arith in
-        x-is ∙ ap (λ (z : ℤ). pos (weight (offset j)) *ℤ z) (phase-sum-same table (getD window (from + j) noSample) m (n + from + j) g) ∙ sym (term-at table window n from j)
+        x-is ∙ ap (λ (z : ℤ). pos (weight (offset j)) *ℤ z) (phase-sum-same table (getD window (from + j) noSample) m (n + from + j) e) ∙ sym (term-at table window n from j)
 
     grown : natAbs (sum j f +ℤ f j) ≤ weights (j + 1) * 1610612736
     grown =
@@ -63,14 +69,19 @@ module _ (table : List ℤ) (window : List Sample) (n from : ℕ) where
       },
     )
 
-  -- and so after all 29
-  module _ (held j : ℕ) (h : Holds held j) (e : j ≡ 29) where
-    abbrev all : Exp w64
-    all = local held (sum j f) 362387865600 (h .is) (omega (arith, h .small, ap weights e ∙ weights-all))
+  -- and back: what a local that holds the first j stands for
+  pub first-terms : (held j k : ℕ) → j ≡ k → k ≤ 29 → Holds held j → FirstTerms table window n from k (toZ w64 held)
+  first-terms held j k e inside h =
+      let all : Exp w64 = local held (sum j f) 700616540160 (h .is) (omega (arith, h .small, weights-within j)) in
+      let is = at all tt in
+      subst (λ (m : ℕ). FirstTerms table window n from m (toZ w64 held)) e
+      (record { is = is; small = subst (λ (z : ℤ). natAbs z ≤ weights j * 1610612736) (sym is) (h .small) })
 
-    pub all-is : toZ w64 held ≡ weighted table (windowed window n) (n + from + 14)
+  -- all 29
+  module _ (z : ℤ) (t : FirstTerms table window n from 29 z) where
+    pub all-is : z ≡ weighted table (windowed window n) (n + from + 14)
     unfolding weighted
-    all-is = at all tt ∙ ap (λ (k : ℕ). sum k f) e
+    all-is = t .is
 
-    pub all-small : natAbs (toZ w64 held) ≤ 362387865600
-    all-small = sized all tt
+    pub all-small : natAbs z ≤ 362387865600
+    all-small = omega (arith, t .small, weights-all)

@@ -1,5 +1,5 @@
 -- The tables' rules, each by one test that is computed over a table: no entry is larger than 16384; the mirror rule; 120 degrees is five entries,
--- so that any three entries five apart add to 0, and their sizes to 32768 at most; and all 15 entries add to 0. Assumes nothing.
+-- so that any three entries five apart add to 0, and their sizes to 32768 at most; all 15 entries add to 0. So of two turns. Assumes nothing.
 use mathlib.Core.Path.{_≡_, refl, sym, _∙_, ap, subst}
 use mathlib.Core.Bool.{Bool, true, _&&_}
 use mathlib.Core.List.{List, [], _∷_}
@@ -12,7 +12,7 @@ use lib.ListN.{getD}
 use mir.Facts.{and-yes}
 use Rattle.ints.specs.Whole.{sum}
 use Rattle.ints.proofs.Every.{every, each, none, none-is}
-use Rattle.model.specs.Bounds.{Tabled}
+use Rattle.model.specs.Bounds.{TwoTurns, Tabled}
 use Rattle.model.specs.Filter.{cosines, sines, entryAt}
 use Rattle.model.proofs.Same.{later-same}
 
@@ -25,12 +25,6 @@ entry-small : (table : List ℤ) → T (all-small table) → (i : ℕ) → natAb
 entry-small [] h i = zero-le
 entry-small (z ∷ zs) h zero = leb→le (natAbs z) 16384 (and-yes (leb (natAbs z) 16384) (all-small zs) h .0)
 entry-small (z ∷ zs) h (suc i) = entry-small zs (and-yes (leb (natAbs z) 16384) (all-small zs) h .1) i
-
-pub cosines-tabled : Tabled cosines
-cosines-tabled = record { small = entry-small cosines tt }
-
-pub sines-tabled : Tabled sines
-sines-tabled = record { small = entry-small sines tt }
 
 -- ---- the mirror rule: entry n is entry 15 - n, or minus it
 module _ (sign : ℤ → ℤ) (table : List ℤ) where
@@ -77,17 +71,37 @@ cos-five-apart n = none-is _ (five-apart-all add-to-none cosines tt n)
 pub sin-five-apart : (n : ℕ) → entryAt sines n +ℤ entryAt sines (n + 10) +ℤ entryAt sines (n + 5) ≡ pos 0
 sin-five-apart n = none-is _ (five-apart-all add-to-none sines tt n)
 
--- their sizes add to 32768 at most
-abbrev pub Trios : List ℤ → Type 0
-Trios table = (n : ℕ) → natAbs (entryAt table n) + natAbs (entryAt table (n + 10)) + natAbs (entryAt table (n + 5)) ≤ 32768
+-- ---- two turns of a table
+module _ (table turns : List ℤ) (two : TwoTurns table turns) where
+  pub turned : (n : ℕ) → entryAt turns n ≡ entryAt table n
+  turned n =
+      let e : n % 15 % 15 ≡ n % 15 = omega arith in
+      two (n % 15) (omega arith) ∙ ap (λ (k : ℕ). getD table k (pos 0)) e
+
+  tabled : T (all-small table) → ((n : ℕ) → entryAt table n +ℤ entryAt table (n + 10) +ℤ entryAt table (n + 5) ≡ pos 0) → Tabled turns
+  tabled small level = record {
+    turns = λ n h. two n h ∙ sym (turned n);
+    small = λ n. subst (λ (z : ℤ). natAbs z ≤ 16384) (sym (turned n)) (entry-small table small (n % 15));
+    level = λ n. (λ i. turned n i +ℤ turned (n + 10) i +ℤ turned (n + 5) i) ∙ level n;
+  }
+
+pub cosines-tabled : (turns : List ℤ) → TwoTurns cosines turns → Tabled turns
+cosines-tabled turns two = tabled cosines turns two tt cos-five-apart
+
+pub sines-tabled : (turns : List ℤ) → TwoTurns sines turns → Tabled turns
+sines-tabled turns two = tabled sines turns two tt sin-five-apart
+
+-- ---- the sizes of three entries five apart add to 32768 at most
+abbrev pub Trios : ℕ → List ℤ → Type 0
+Trios most table = (n : ℕ) → natAbs (entryAt table n) + natAbs (entryAt table (n + 10)) + natAbs (entryAt table (n + 5)) ≤ most
 
 abbrev sizes-small : ℤ → ℤ → ℤ → Bool
 sizes-small x y z = leb (natAbs x + natAbs y + natAbs z) 32768
 
-pub cos-trios : Trios cosines
+pub cos-trios : Trios 32768 cosines
 cos-trios n = leb→le _ _ (five-apart-all sizes-small cosines tt n)
 
-pub sin-trios : Trios sines
+pub sin-trios : Trios 32768 sines
 sin-trios n = leb→le _ _ (five-apart-all sizes-small sines tt n)
 
 -- ---- all 15 entries add to 0

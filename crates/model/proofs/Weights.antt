@@ -8,6 +8,7 @@ use native.Mathlib.Decide.{decLt}
 use borrow.Author.Tests.{lt-ltb, le-ltb}
 use lib.IntN.{ℤ, pos, negsuc, natAbs, _+ℤ_}
 use Rattle.ints.specs.Whole.{sum}
+use Rattle.model.specs.Bounds.{weights}
 use Rattle.model.specs.Filter.{weight, offset}
 
 -- up to the centre the weight is one more than the place, after it one less at each
@@ -26,11 +27,6 @@ weight-after j h = ap (λ (t : Bool). 15 - natAbs (cond t (negsuc (14 - suc j)) 
 pub weight-within : (j : ℕ) → weight (offset j) ≤ 15
 unfolding weight offset
 weight-within j = omega arith
-
--- the weights of the first j terms together
-unfoldable pub weights : ℕ → ℕ
-weights zero = 0
-weights (suc j) = weights j + weight (offset j)
 
 -- the weights add to 225
 pub weights-all : weights 29 ≡ 225
