@@ -10,7 +10,7 @@ use borrow.Author.Tests.{ltb-true, ltb-false, eqb-true, eqb-false}
 use native.Mathlib.Nat.{ne-of-lt}
 use lib.Dec.{ltb, eqb}
 use lib.IntN.{ℤ, pos}
-use lib.ListN.{length, getD, set, take, drop, length-set, length-append, length-drop, drop-of-length-le, List·getD-append}
+use lib.ListN.{length, getD, set, take, drop, length-set, length-drop, drop-of-length-le, List·getD-append}
 use lib.Seq.{getD-set-same, getD-set-other, getD-append-add, ext-getD, take-all, take-at, drop-at, length-take-le}
 use Rattle.model.specs.declared.filter.Sample.{Sample}
 use Rattle.model.specs.Filter.{noSample, lentSamples}
@@ -89,9 +89,6 @@ module _ (l : List ℕ) (place : ℕ) (h : place ≤ 30) where
 
       rest : length (postOf 0 (from - 0) w) ≡ 3 * place
       rest = length-drop (from - 0) w ∙ omega (arith, long)
-
-      pub first-length : length first-put ≡ 93
-      first-length = length-append x (postOf 0 (from - 0) w) ∙ omega (arith, x-length, rest)
 
       pub both-put : (y : List ℤ) → y ≡ numbersIn (length (midOf from (93 - from) first-put)) (midOf 0 (6 * place - 0) l) → putMid from (93 - from) first-put y ≡ older ++ newer
       both-put y y-is = (λ i. (take-at x (postOf 0 (from - 0) w) from x-length ∙ x-older) i ++ (y-newer i ++ none i)) ∙ ap (λ (r : List ℤ). older ++ r) (append-nil newer)

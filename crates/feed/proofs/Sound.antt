@@ -22,10 +22,11 @@ neither false t e = (refl, e)
 
 -- ---- a served nominal and rate
 
--- D = sampling / rate leaves no remainder
+-- the nominal is 50 or 60, and D = sampling / rate leaves no remainder
 pub record Served (nominal rate : ℕ) : Type 0 where
   pub low : 50 ≤ nominal
   pub high : nominal ≤ 60
+  pub sixty : (nominal ≡ 50 → ⊥) → nominal ≡ 60
   pub slow : 10 ≤ rate
   pub fast : rate ≤ 60
   pub whole : spacing nominal rate * rate ≡ samplingOf nominal
@@ -47,20 +48,21 @@ right : ℕ → ℕ → Bool
 right nominal rate = (leb 10 rate && leb rate 60) && eqb (spacing nominal rate * rate) (samplingOf nominal)
 
 -- at 50 or 60 Hz, a rate of a list whose rates are all right
-listed : (nominal rate : ℕ) (l : List ℕ) → 50 ≤ nominal → nominal ≤ 60 → T (each (right nominal) l) → among rate l ≡ true → Served nominal rate
+listed : (nominal rate : ℕ) (l : List ℕ) → 50 ≤ nominal → nominal ≤ 60 → ((nominal ≡ 50 → ⊥) → nominal ≡ 60)
+    → T (each (right nominal) l) → among rate l ≡ true → Served nominal rate
 unfolding right
-listed nominal rate l low high t e =
+listed nominal rate l low high sixty t e =
     let b = and-yes (leb 10 rate && leb rate 60) (eqb (spacing nominal rate * rate) (samplingOf nominal)) (each-among (right nominal) rate l t e) in
     let d = and-yes (leb 10 rate) (leb rate 60) (b .0) in
-    record { low = low; high = high; slow = leb→le 10 rate (d .0); fast = leb→le rate 60 (d .1); whole = eqb→eq _ _ (b .1) }
+    record { low = low; high = high; sixty = sixty; slow = leb→le 10 rate (d .0); fast = leb→le rate 60 (d .1); whole = eqb→eq _ _ (b .1) }
 
 pub served : (nominal rate : ℕ) → servedRate nominal rate ≡ true → Served nominal rate
 unfolding servedRate right
 served nominal rate e = go (eqb nominal 50) refl (eqb nominal 60) refl
   where
     go : (b : Bool) → eqb nominal 50 ≡ b → (d : Bool) → eqb nominal 60 ≡ d → Served nominal rate
-    go true s d t = let n = eqb-true nominal 50 s in rw n (listed 50 rate (rates 50) (lit≤ tt) (lit≤ tt) tt (rw n at e))
-    go false s true t = let n = eqb-true nominal 60 t in rw n (listed 60 rate (rates 60) (lit≤ tt) (lit≤ tt) tt (rw n at e))
+    go true s d t = let n = eqb-true nominal 50 s in rw n (listed 50 rate (rates 50) (lit≤ tt) (lit≤ tt) (λ m. absurd (m refl)) tt (rw n at e))
+    go false s true t = let n = eqb-true nominal 60 t in rw n (listed 60 rate (rates 60) (lit≤ tt) (lit≤ tt) (λ m. refl) tt (rw n at e))
     go false s false t = absurd (clash (sym (rw (s, t) at e)))
 
 -- ---- a head that is not faulty

@@ -1,12 +1,12 @@
 -- The centre's SOC and index: 15 before the next sample, in the same second or in the one before. Numbers from index 0 of SOC 0 are a second's
--- samples and an index, so that quotient and remainder give them back. Assumes nothing.
-use mathlib.Core.Path.{_≡_, refl, sym}
+-- samples and an index, so that quotient and remainder give them back. When an index is a multiple of D. Assumes nothing.
+use mathlib.Core.Path.{_≡_, refl, sym, _∙_}
 use mathlib.Core.Bool.{Bool, true, false}
-use Prim.Native.Nat.{ℕ, zero, suc, _+_, _-_, _*_, _/_, _<_, _≤_}
+use Prim.Native.Nat.{ℕ, zero, suc, _+_, _-_, _*_, _/_, _%_, _<_, _≤_}
 use native.Mathlib.Omega.{arith}
-use native.Mathlib.Nat.{div-lt-iff-lt-mul}
-use lib.Dec.{ltb}
-use borrow.Author.Tests.{ltb-true, ltb-false}
+use native.Mathlib.Nat.{div-lt-iff-lt-mul, mod-eq-zero-of-dvd, dvd-of-mod-eq-zero, mul-dvd-mul-right, dvd-of-mul-dvd-mul-right}
+use lib.Dec.{ltb, eqb}
+use borrow.Author.Tests.{ltb-true, ltb-false, eqb-true, eqb-false, eq-eqb, ne-eqb}
 use lib.Arith.{digits-div, digits-mod}
 use Rattle.feed.specs.declared.Head.{Head}
 use Rattle.feed.specs.declared.Centre.{Centre}
@@ -69,3 +69,14 @@ spacing-positive nominal rate v = go (spacing nominal rate) (v .whole)
 pub frame-below : (nominal rate index : ℕ) → Served nominal rate → index < samplingOf nominal → index / spacing nominal rate < rate
 frame-below nominal rate index v h =
     div-lt-iff-lt-mul (spacing-positive nominal rate v) .1 (omega (arith, v .whole))
+
+-- D goes into the sampling `rate` times, so an index is a multiple of D exactly where index × rate is one of the sampling
+pub multiple : (nominal rate index sampling : ℕ) → Served nominal rate → samplingOf nominal ≡ sampling
+    → eqb (index * rate % sampling) 0 ≡ eqb (index % spacing nominal rate) 0
+multiple nominal rate index sampling v s = go (spacing nominal rate) (v .whole ∙ s) (eqb (index % spacing nominal rate) 0) refl
+  where
+    go : (d : ℕ) → d * rate ≡ sampling → (b : Bool) → eqb (index % d) 0 ≡ b → eqb (index * rate % sampling) 0 ≡ b
+    go d e true t = rw (← e) (eq-eqb _ 0 (mod-eq-zero-of-dvd (d * rate) (mul-dvd-mul-right d (dvd-of-mod-eq-zero d (eqb-true (index % d) 0 t)) rate)))
+    go d e false t =
+        let r : 0 < rate = omega (arith, v .slow) in
+        rw (← e) (ne-eqb _ 0 (λ z. eqb-false (index % d) 0 t (mod-eq-zero-of-dvd d (dvd-of-mul-dvd-mul-right d r (dvd-of-mod-eq-zero (d * rate) z)))))

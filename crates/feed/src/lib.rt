@@ -21,7 +21,8 @@ use sampling::served_nominal;
 use sampling::served_rate;
 ghost use mathlib.Core.Path.{_≡_};
 ghost use mathlib.Core.Bool.{false, cond};
-ghost use Prim.Native.Nat.{_≤_};
+ghost use Prim.Native.Nat.{_%_, _≤_};
+ghost use lib.Dec.{eqb};
 ghost use Rattle.model.specs.Filter.{lentSamples};
 ghost use Rattle.sampling.specs.Tags.{spacing};
 ghost use Rattle.sampling.specs.Sampling.{samplingOf};
@@ -202,6 +203,19 @@ impl Head {
         self.sampling() / self.rate as u16
     }
 
+    // Whether an index is a multiple of D: D goes into the sampling `rate` times, so exactly where index × rate is a multiple of the sampling.
+    fn is_multiple(self, index: u16) -> bool
+        requires { ⌜ faulty self ≡ false ⌝ }
+        ensures { λ r. ⌜ r ≡ eqb (index % spacing (self .nominal) (self .rate)) 0 ⌝ }
+    {
+        let product = index as u32 * self.rate as u32;
+        if self.nominal == 50 {
+            product % 750 == 0
+        } else {
+            product % 900 == 0
+        }
+    }
+
     // The sample 15 before the next one: of the same second, or of the second before.
     fn centre(self) -> Centre
         requires { ⌜ faulty self ≡ false ⌝ }
@@ -229,7 +243,7 @@ impl Head {
             return false;
         }
         let centre = self.centre();
-        centre.index % self.spacing() == 0
+        self.is_multiple(centre.index)
     }
 
     // The phase at the newest centre that comes with the next sample, which stands 14 behind it; zero while fewer than 29 are then held.

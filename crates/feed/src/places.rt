@@ -85,16 +85,24 @@ fn put_numbers(numbers: &mut [i16], bytes: &[u8])
     }
 }
 
-// The samples of the thirty-one places from one place round, a, b and c of each in turn: where all are filled, the oldest first.
+// A window filled with the samples of the thirty-one places from one place round, a, b and c of each in turn.
+fn put_window(window: &mut [i16], places: &[u8], place: u8)
+    requires { ⌜ (length (now window) ≡ 93) × (length (now places) ≡ 186) × (place ≤ 30) ⌝ }
+    ensures { λ _. ⌜ lentSamples 31 (now (window .exit)) ≡ oldestFirst place (samplesOf 31 (now (places .entry))) ⌝ }
+{
+    let at = 6 * place as usize;
+    let split = 93 - 3 * place as usize;
+    put_numbers(&mut window[0..split], &places[at..186]);
+    put_numbers(&mut window[split..93], &places[0..at]);
+}
+
+// The samples of the thirty-one places from one place round: where all are filled, the oldest first.
 pub(crate) fn window_from(places: &[u8], place: u8) -> [i16; 93]
     requires { ⌜ (length (now places) ≡ 186) × (place ≤ 30) ⌝ }
     ensures { λ r. ⌜ lentSamples 31 r ≡ oldestFirst place (samplesOf 31 (now (places .entry))) ⌝ }
 {
-    let at = 6 * place as usize;
-    let split = 93 - 3 * place as usize;
     let mut window = [0i16; 93];
-    put_numbers(&mut window[0..split], &places[at..186]);
-    put_numbers(&mut window[split..93], &places[0..at]);
+    put_window(&mut window, places, place);
     window
 }
 
@@ -103,7 +111,8 @@ pub(crate) fn window_with(places: &[u8], place: u8, s: Sample) -> [i16; 93]
     requires { ⌜ (length (now places) ≡ 186) × (place ≤ 30) ⌝ }
     ensures { λ r. ⌜ lentSamples 31 r ≡ oldestFirst (cond (eqb place 30) 0 (place + 1)) (samplesOf 31 (withPlace (now (places .entry)) place s)) ⌝ }
 {
-    let mut window = window_from(places, next_place(place));
+    let mut window = [0i16; 93];
+    put_window(&mut window, places, next_place(place));
     let a = s.a;
     let b = s.b;
     let c = s.c;
