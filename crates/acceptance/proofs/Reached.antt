@@ -1,20 +1,20 @@
 -- The kept angles of a reached bank are true: those of a cleared one are, every call keeps them so, and salvage makes them so.
-use mathlib.Core.Path.{_≡_, refl, sym, ap, subst, _∙_}
+use mathlib.Core.Path.{_≡_, refl, sym, ap, subst}
 use mathlib.Core.Bool.{Bool, true, false, not, cond}
 use mathlib.Core.List.{List}
-use Prim.Native.Nat.{ℕ, _+_, _-_, _*_, _≤_}
+use Prim.Native.Nat.{ℕ, _≤_}
 use native.Mathlib.Omega.{arith}
 use lib.Dec.{eqb}
-use lib.ListN.{length, take, drop, replicate, length-replicate, replicate-append-replicate}
-use lib.Seq.{take-at, drop-at}
+use lib.ListN.{length}
 use borrow.Author.Tests.{eqb-true, eqb-false}
 use Rattle.feed.specs.Answers.{Said, done, refused}
 use Rattle.feed.specs.Places.{zeros}
 use Rattle.bank.specs.declared.Settled.{Settled}
 use Rattle.bank.specs.declared.Settled.the-variants.{Done}
-use Rattle.bank.specs.Slot.{slotAt, freeSlot, TrueIn}
+use Rattle.bank.specs.Slot.{slotAt, TrueIn}
 use Rattle.bank.specs.Calls.{Outcome, refusing, settled, cleared as clearedTo, Clearing}
 use Rattle.bank.proofs.Slots.{slot-length}
+use Rattle.bank.proofs.Free.{zeros-slot}
 use Rattle.salvage.specs.declared.MendedSlot.{MendedSlot}
 use Rattle.acceptance.specs.Runs.{Ask, Call, Promised, Ran, ends, goes-on}
 use Rattle.acceptance.specs.Salvage.{Mends}
@@ -25,16 +25,6 @@ use Rattle.acceptance.proofs.Lasting.{free-true, stays-true}
 use Rattle.acceptance.proofs.Salvage.{salvage-holds}
 
 -- ---- a cleared bank
-
-zeros-slot : (k : ℕ) → k ≤ 15 → slotAt (zeros 4096) k ≡ freeSlot
-unfolding slotAt zeros freeSlot
-zeros-slot k h =
-    let n : 256 * k + (256 + (3840 - 256 * k)) ≡ 4096 = omega arith in
-    ap (λ (i : ℕ). take 256 (drop (256 * k) (replicate i 0))) (sym n)
-    ∙ ap (λ (l : List ℕ). take 256 (drop (256 * k) l)) (sym (replicate-append-replicate (256 * k) (256 + (3840 - 256 * k)) 0))
-    ∙ ap (λ (l : List ℕ). take 256 l) (drop-at (replicate (256 * k) 0) (replicate (256 + (3840 - 256 * k)) 0) (256 * k) (length-replicate {A = ℕ} (256 * k) 0))
-    ∙ ap (λ (l : List ℕ). take 256 l) (sym (replicate-append-replicate 256 (3840 - 256 * k) 0))
-    ∙ take-at (replicate 256 0) (replicate (3840 - 256 * k) 0) 256 (length-replicate {A = ℕ} 256 0)
 
 zeros-true : AllTrue (zeros 4096)
 zeros-true k h = subst TrueIn (sym (zeros-slot k h)) free-true

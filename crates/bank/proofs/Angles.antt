@@ -3,7 +3,8 @@
 use mathlib.Core.Path.{_≡_, sym, ap, _∙_}
 use mathlib.Core.Bool.{true, false}
 use mathlib.Core.List.{List, _++_}
-use Prim.Native.Nat.{ℕ, _*_}
+use Prim.Native.Nat.{ℕ, _*_, _<_}
+use native.Mathlib.Omega.{arith}
 use lib.Dec.{lit<}
 use lib.ListN.{length, getD, take, drop}
 use lib.Seq.{drop-drop}
@@ -15,8 +16,8 @@ use Rattle.feed.specs.Ring.{faulty, historyOf, workedOut, True}
 use Rattle.bank.specs.Slot.{stateIn, headIn, placesIn, keptPart, keptBytes, tailIn, feedIn, slotOf, withKept, workedOutIn, TrueIn}
 use Rattle.bank.specs.Damage.{blank, isFree, stray, isDamaged}
 use Rattle.bank.specs.Inside.{withPart}
-use Rattle.bank.proofs.Parts.{with-size, with-front, with-part, with-tail, with-low, with-places, same-kept}
-use Rattle.bank.proofs.Keeping.{bytes-length, kept-of, flags-within, part-back, feed-back, is-open, open-kept, tail-clean}
+use Rattle.bank.proofs.Parts.{with-size, with-front, with-part, with-tail, with-low, with-places, same-kept, same-numbers}
+use Rattle.bank.proofs.Keeping.{bytes-length, kept-of, flags-within, part-back, feed-back, is-open, open-clean, open-kept}
 use Rattle.bank.proofs.States.{open-damaged}
 
 -- ---- from a slot to its feed and back
@@ -52,7 +53,7 @@ module _ (s : List ℕ) (one : stateIn s ≡ 1) (faultless : faulty (headIn s) �
   abbrev pub given : List ℕ
   given = keptBytes (phasesOf (historyOf (feedIn s)))
 
-  pub worked-is : workedOutIn s ≡ withKept given s
+  worked-is : workedOutIn s ≡ withKept given s
   unfolding workedOutIn workedOut feedIn
   worked-is = rw (eq-eqb (stateIn s) 1 one, faultless)
 
@@ -67,27 +68,14 @@ module _ (s : List ℕ) (one : stateIn s ≡ 1) (faultless : faulty (headIn s) �
     pub worked-size : length (workedOutIn s) ≡ 256
     worked-size = ap length worked-is ∙ with-size s size given fifteen
 
-    pub worked-low : (i : ℕ) → getD (withKept given s) i 0 ≡ getD s i 0 → getD (workedOutIn s) i 0 ≡ getD s i 0
-    worked-low i e = ap (λ (t : List ℕ). getD t i 0) worked-is ∙ e
+    worked-low : (i : ℕ) → i < 197 → getD (workedOutIn s) i 0 ≡ getD s i 0
+    worked-low i h = ap (λ (t : List ℕ). getD t i 0) worked-is ∙ with-low s size given fifteen i h
 
-    pub worked-state : stateIn (workedOutIn s) ≡ 1
-    worked-state = worked-low 0 (with-low s size given fifteen 0 (lit< tt)) ∙ one
+    worked-state : stateIn (workedOutIn s) ≡ 1
+    worked-state = worked-low 0 (lit< tt) ∙ one
 
-    pub worked-head : headIn (workedOutIn s) ≡ headIn s
-    unfolding headIn
-    worked-head =
-        rw (
-          worked-low 1 (with-low s size given fifteen 1 (lit< tt)),
-          worked-low 2 (with-low s size given fifteen 2 (lit< tt)),
-          worked-low 3 (with-low s size given fifteen 3 (lit< tt)),
-          worked-low 4 (with-low s size given fifteen 4 (lit< tt)),
-          worked-low 5 (with-low s size given fifteen 5 (lit< tt)),
-          worked-low 6 (with-low s size given fifteen 6 (lit< tt)),
-          worked-low 7 (with-low s size given fifteen 7 (lit< tt)),
-          worked-low 8 (with-low s size given fifteen 8 (lit< tt)),
-          worked-low 9 (with-low s size given fifteen 9 (lit< tt)),
-          worked-low 10 (with-low s size given fifteen 10 (lit< tt)),
-        )
+    worked-head : headIn (workedOutIn s) ≡ headIn s
+    worked-head = same-numbers (workedOutIn s) s (λ i h. worked-low i (omega arith))
 
     pub worked-places : placesIn (workedOutIn s) ≡ placesIn s
     worked-places = ap placesIn worked-is ∙ with-places s size given fifteen
@@ -124,5 +112,5 @@ module _ (s : List ℕ) (one : stateIn s ≡ 1) (faultless : faulty (headIn s) �
 pub worked-undamaged : (s : List ℕ) → length s ≡ 256 → isDamaged s ≡ false → isFree s ≡ false → isDamaged (workedOutIn s) ≡ false
 unfolding feedIn
 worked-undamaged s size e f =
-    let k = open-kept s size e f in
-    worked-sound s (eqb-true (stateIn s) 1 (is-open s size e f)) (k .faultless) size (k .unfilled) (tail-clean s size e f)
+    let clean = open-clean s size e f in
+    worked-sound s (eqb-true (stateIn s) 1 (is-open s size e f)) (open-kept s size e f .faultless) size (clean .unfilled) (clean .tail)

@@ -1,11 +1,12 @@
--- A slot that is not damaged and not open is all zero, and the numbers of an opened feed put into it make the feed's slot. Assumes nothing.
+-- A slot that is not damaged and not open is all zero, as each of a cleared bank is, and the numbers of an opened feed put into it make the feed's
+-- slot. Assumes nothing.
 use mathlib.Core.Path.{_≡_, refl, sym, _∙_, ap}
 use mathlib.Core.Bool.{false, not, _&&_, _||_}
 use mathlib.Core.List.{List, [], _∷_, _++_}
-use Prim.Native.Nat.{ℕ}
+use Prim.Native.Nat.{ℕ, _-_, _*_, _≤_}
 use native.Mathlib.Omega.{arith}
 use lib.Dec.{ltb}
-use lib.ListN.{length, drop}
+use lib.ListN.{length, take, drop}
 use borrow.Author.Tests.{ltb-false, not-false}
 use Rattle.refusals.specs.Refusals.{unlessRefused}
 use Rattle.sampling.specs.Tags.{noNominal, noRate}
@@ -14,11 +15,11 @@ use Rattle.feed.specs.Answers.{done}
 use Rattle.feed.specs.Places.{zeros}
 use Rattle.feed.specs.Ring.{faulty, opened}
 use Rattle.feed.proofs.Sound.{neither}
-use Rattle.bank.specs.Slot.{withSlot, stateIn, headIn, headBytes, keptBytes, tailOf, slotOf, freeSlot}
+use Rattle.bank.specs.Slot.{slotAt, withSlot, stateIn, headIn, headBytes, keptBytes, tailOf, slotOf, freeSlot}
 use Rattle.bank.specs.Damage.{blank, isFree, isOpen, stray, isDamaged}
 use Rattle.bank.specs.Calls.{refusing, openedAt}
 use Rattle.bank.specs.Inside.{StandsIn}
-use Rattle.bank.proofs.Blank.{blank-zeros}
+use Rattle.bank.proofs.Blank.{blank-zeros, zeros-front, zeros-rest}
 use Rattle.bank.proofs.Keeping.{free-undamaged, free-not-open}
 use Rattle.bank.proofs.Lent.{pass, inside, seen}
 use Rattle.bank.proofs.States.{free-damaged}
@@ -30,6 +31,13 @@ all-zero s size sound shut =
     let m = neither (ltb 1 (stateIn s)) (isFree s && not (blank s)) (n .0) in
     let free : stateIn s ≡ 0 = omega (arith, ltb-false 1 (stateIn s) (m .0), shut) in
     blank-zeros s (not-false (blank s) (sym (free-damaged s free) ∙ sound)) ∙ ap zeros size
+
+-- a slot of a cleared bank
+pub zeros-slot : (n : ℕ) → n ≤ 15 → slotAt (zeros 4096) n ≡ freeSlot
+unfolding slotAt freeSlot
+zeros-slot n h =
+    ap (λ (l : List ℕ). take 256 l) (zeros-rest (256 * n) (4096 - 256 * n) 4096 (omega arith))
+    ∙ zeros-front 256 (3840 - 256 * n) (4096 - 256 * n) (omega arith)
 
 laid : (nominal rate soc : ℕ) → headBytes (opened nominal rate soc .head) ++ drop 11 freeSlot ≡ slotOf (opened nominal rate soc)
 unfolding opened slotOf keptBytes tailOf freeSlot zeros

@@ -5,8 +5,8 @@ use mathlib.Core.List.{List, _++_, append-assoc}
 use Prim.Native.Nat.{ℕ, _+_, _*_, _/_, _%_, _<_}
 use native.Mathlib.Omega.{arith}
 use lib.Dec.{ltb, eqb, lit<}
-use lib.ListN.{length, getD, take, drop, length-append, length-replicate}
-use borrow.Author.Tests.{eqb-false, eq-eqb, ltb-false, not-false}
+use lib.ListN.{length, getD, take, drop, length-append}
+use borrow.Author.Tests.{eqb-false, eq-eqb, ltb-false}
 use Rattle.model.specs.declared.angle.Phase.{Phase}
 use Rattle.model.specs.declared.report.Phases.{Phases}
 use Rattle.feed.specs.declared.Head.{Head}
@@ -19,9 +19,9 @@ use Rattle.feed.specs.Ring.{faulty}
 use Rattle.feed.proofs.Sound.{neither}
 use Rattle.bank.specs.Slot.{stateIn, headIn, headBytes, placesIn, keptPart, keptIn, flagOf, keptBytes, tailIn, tailOf, feedIn, slotOf, freeSlot}
 use Rattle.bank.specs.Damage.{blank, isFree, isOpen, flagOver, stray, isDamaged}
-use Rattle.bank.proofs.Blank.{zeros-blank}
+use Rattle.bank.proofs.Blank.{zeros-length, zeros-blank}
 use Rattle.bank.proofs.Parts.{places-length, part-of-three, last-of-three, kept-byte}
-use Rattle.bank.proofs.States.{open-damaged}
+use Rattle.bank.proofs.States.{open-damaged, Clean, no-stray}
 
 -- what a slot that is open and not damaged keeps: numbers that are not faulty, whole places, and zeros in those not filled
 pub record Kept (f : Feed) : Type 0 where
@@ -40,8 +40,8 @@ unfolding keptBytes
 bytes-length k = refl
 
 tail-length : (f : Feed) → length (tailOf f) ≡ 44
-unfolding tailOf zeros
-tail-length f = length-replicate {A = ℕ} 44 0
+unfolding tailOf
+tail-length f = zeros-length 44
 
 head-back : (h : Head) (rest : List ℕ) → headIn (headBytes h ++ rest) ≡ h
 unfolding headIn headBytes
@@ -150,8 +150,8 @@ unfolding freeSlot zeros
 free-is-free = refl
 
 pub free-whole : length freeSlot ≡ 256
-unfolding freeSlot zeros
-free-whole = length-replicate {A = ℕ} 256 0
+unfolding freeSlot
+free-whole = zeros-length 256
 
 -- ---- from a slot to its feed
 
@@ -166,21 +166,12 @@ module _ (s : List ℕ) (whole : length s ≡ 256) (undamaged : isDamaged s ≡ 
   pub is-open : isOpen s ≡ true
   is-open = eq-eqb (stateIn s) 1 is-one
 
-  pub open-kept : Kept (feedIn s)
-  unfolding feedIn stray
-  open-kept =
-      let n = neither (faulty (headIn s)) (stray s) (sym (open-damaged s is-one) ∙ undamaged) in
-      let l = neither (not (blank (drop (6 * headIn s .held) (placesIn s))) || not (blank (tailIn s))) (flagOver s) (n .1) in
-      let m = neither (not (blank (drop (6 * headIn s .held) (placesIn s)))) (not (blank (tailIn s))) (l .0) in
-      record {
-        faultless = n .0;
-        whole = places-length s whole;
-        unfilled = not-false (blank (drop (6 * headIn s .held) (placesIn s))) (m .0);
-      }
+  neither-fault : (faulty (headIn s) ≡ false) × (stray s ≡ false)
+  neither-fault = neither (faulty (headIn s)) (stray s) (sym (open-damaged s is-one) ∙ undamaged)
 
-  pub tail-clean : blank (tailIn s) ≡ true
-  unfolding stray
-  tail-clean =
-      let n = neither (faulty (headIn s)) (stray s) (sym (open-damaged s is-one) ∙ undamaged) in
-      let l = neither (not (blank (drop (6 * headIn s .held) (placesIn s))) || not (blank (tailIn s))) (flagOver s) (n .1) in
-      not-false (blank (tailIn s)) (neither (not (blank (drop (6 * headIn s .held) (placesIn s)))) (not (blank (tailIn s))) (l .0) .1)
+  pub open-clean : Clean s
+  open-clean = no-stray s (neither-fault .1)
+
+  pub open-kept : Kept (feedIn s)
+  unfolding feedIn
+  open-kept = record { faultless = neither-fault .0; whole = places-length s whole; unfilled = open-clean .unfilled }

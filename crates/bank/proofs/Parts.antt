@@ -1,13 +1,31 @@
--- A slot past its eleven bytes of numbers is its places, its kept part and its tail; a part put over another leaves what stands around it.
--- Assumes nothing.
+-- A slot's numbers go by its first eleven bytes; past them it is its places, its kept part and its tail; a part put over another leaves what stands
+-- around it. Assumes nothing.
 use mathlib.Core.Path.{_≡_, sym, _∙_, ap}
 use mathlib.Core.List.{List, _++_}
 use Prim.Native.Nat.{ℕ, _+_, _<_}
 use native.Mathlib.Omega.{arith}
+use lib.Dec.{lit<}
 use lib.ListN.{length, getD, take, drop, length-append, length-drop, take-append-drop, List·getD-append}
 use lib.Seq.{drop-drop, length-take-le, take-at, drop-at, getD-take, getD-drop}
-use Rattle.bank.specs.Slot.{placesIn, keptPart, tailIn, withKept}
+use Rattle.bank.specs.Slot.{headIn, placesIn, keptPart, tailIn, withKept}
 use Rattle.bank.proofs.Slots.{drop-take}
+
+-- two slots with the same first eleven bytes have the same numbers
+pub same-numbers : (s t : List ℕ) → ((i : ℕ) → i < 11 → getD s i 0 ≡ getD t i 0) → headIn s ≡ headIn t
+unfolding headIn
+same-numbers s t low =
+    rw (
+      low 1 (lit< tt),
+      low 2 (lit< tt),
+      low 3 (lit< tt),
+      low 4 (lit< tt),
+      low 5 (lit< tt),
+      low 6 (lit< tt),
+      low 7 (lit< tt),
+      low 8 (lit< tt),
+      low 9 (lit< tt),
+      low 10 (lit< tt),
+    )
 
 pub places-length : (s : List ℕ) → length s ≡ 256 → length (placesIn s) ≡ 186
 unfolding placesIn
@@ -17,7 +35,7 @@ pub kept-length : (s : List ℕ) → length s ≡ 256 → length (keptPart s) �
 unfolding keptPart
 kept-length s size = length-take-le 15 (drop 197 s) (simp length-drop (omega arith))
 
-pub past-places : (s : List ℕ) → drop 197 s ≡ keptPart s ++ tailIn s
+past-places : (s : List ℕ) → drop 197 s ≡ keptPart s ++ tailIn s
 unfolding keptPart tailIn
 past-places s = sym (ap (λ (t : List ℕ). take 15 (drop 197 s) ++ t) (sym (drop-drop 15 197 s)) ∙ take-append-drop 15 (drop 197 s))
 

@@ -1,17 +1,18 @@
--- Damage by the slot's state: over 1, free, open. Assumes nothing.
+-- Damage by the slot's state: over 1, free, open; what holds of a slot without stray bytes, and of one that only they damage. Assumes nothing.
 use mathlib.Core.Path.{_≡_, refl, sym, _∙_, ap}
 use mathlib.Core.Bool.{Bool, true, false, cond, not, _&&_, _||_, or-false, and-false}
 use mathlib.Core.List.{List}
-use Prim.Native.Nat.{ℕ, _≤_, _<_}
+use Prim.Native.Nat.{ℕ, _*_, _≤_, _<_}
 use lib.Dec.{ltb}
-use borrow.Author.Tests.{eqb-true, ne-eqb, lt-ltb, ltb-true, ltb-false, not-true}
+use lib.ListN.{drop}
+use borrow.Author.Tests.{eqb-true, ne-eqb, lt-ltb, ltb-true, ltb-false, not-true, not-false}
 use Rattle.feed.specs.declared.Head.{Head}
 use Rattle.sampling.specs.Sampling.{samplingOf}
 use Rattle.feed.specs.Ring.{unserved, uneven, early, faulty}
 use Rattle.feed.proofs.Sound.{neither}
 use Rattle.bank.specs.declared.damage.Damage.the-variants.{Stray, Other}
-use Rattle.bank.specs.Slot.{stateIn, headIn}
-use Rattle.bank.specs.Damage.{blank, isOpen, stray, isDamaged, onlyStray, damageOf}
+use Rattle.bank.specs.Slot.{stateIn, headIn, placesIn, tailIn}
+use Rattle.bank.specs.Damage.{blank, isOpen, flagOver, stray, isDamaged, onlyStray, damageOf}
 use Rattle.bank.proofs.Blank.{both-true}
 
 pub or-so : {t : Bool} (u : Bool) → t ≡ true → (t || u) ≡ true
@@ -20,7 +21,7 @@ or-so u e = ap (λ (v : Bool). v || u) e
 pub or-not : {t : Bool} (u : Bool) → t ≡ false → (t || u) ≡ u
 or-not u e = ap (λ (v : Bool). v || u) e
 
-pub or-either : (t : Bool) {u : Bool} → u ≡ true → (t || u) ≡ true
+or-either : (t : Bool) {u : Bool} → u ≡ true → (t || u) ≡ true
 or-either true e = refl
 or-either false e = e
 
@@ -36,6 +37,19 @@ module _ (s : List ℕ) where
   pub open-damaged : stateIn s ≡ 1 → isDamaged s ≡ (faulty (headIn s) || stray s)
   unfolding isDamaged
   open-damaged e = rw e
+
+-- of a slot without stray bytes: its unfilled places and its tail are blank
+pub record Clean (s : List ℕ) : Type 0 where
+  pub unfilled : blank (drop (6 * headIn s .held) (placesIn s)) ≡ true
+  pub tail : blank (tailIn s) ≡ true
+
+pub no-stray : (s : List ℕ) → stray s ≡ false → Clean s
+unfolding stray
+no-stray s e =
+    let unfilled = blank (drop (6 * headIn s .held) (placesIn s)) in
+    let bytes = neither (not unfilled || not (blank (tailIn s))) (flagOver s) e .0 in
+    let both = neither (not unfilled) (not (blank (tailIn s))) bytes in
+    record { unfilled = not-false unfilled (both .0); tail = not-false (blank (tailIn s)) (both .1) }
 
 -- what holds of an open slot that only stray bytes damage
 pub record StrayOnly (s : List ℕ) : Type 0 where
@@ -68,7 +82,7 @@ module _ (s : List ℕ) (damaged : isDamaged s ≡ true) where
   open-stray one e = let some = sym (open-damaged s one ∙ or-not (stray s) e) ∙ damaged in rw (damaged, one, some, e)
 
 -- place over 30
-pub place-over : (h : Head) → 30 < h .place → faulty h ≡ true
+place-over : (h : Head) → 30 < h .place → faulty h ≡ true
 unfolding faulty
 place-over h over =
     let others = unserved h || not (ltb (h .index) (samplingOf (h .nominal))) || ltb 31 (h .held) in

@@ -1,20 +1,20 @@
 -- Stray bytes: the parts of a slot that the code scans are the unfilled places and the tail, and a slot with none has a tail of zeros. Assumes nothing.
 use mathlib.Core.Path.{_≡_, refl, sym, _∙_, ap}
-use mathlib.Core.Bool.{Bool, true, false, not, cond, _||_}
+use mathlib.Core.Bool.{Bool, true, false, cond}
 use mathlib.Core.List.{List}
 use Prim.Native.Nat.{ℕ, _+_, _-_, _*_}
 use native.Mathlib.Omega.{arith}
 use lib.Dec.{ltb}
 use lib.ListN.{length, take, drop, length-drop, drop-of-length-le}
 use lib.Seq.{drop-drop, take-all}
-use borrow.Author.Tests.{ltb-true, ltb-false, not-false}
+use borrow.Author.Tests.{ltb-true, ltb-false}
 use Rattle.feed.specs.Places.{zeros}
-use Rattle.feed.proofs.Sound.{neither}
-use Rattle.bank.specs.Slot.{headIn, placesIn, tailIn}
-use Rattle.bank.specs.Damage.{blank, flagOver, stray}
+use Rattle.bank.specs.Slot.{placesIn, tailIn}
+use Rattle.bank.specs.Damage.{stray}
 use Rattle.bank.proofs.Blank.{blank-zeros}
 use Rattle.bank.proofs.Slots.{drop-take}
 use Rattle.bank.proofs.Parts.{places-length}
+use Rattle.bank.proofs.States.{no-stray}
 
 module _ (s : List ℕ) (size : length s ≡ 256) where
   pub unfilled-scan : (held : ℕ) → take (197 - cond (ltb held 31) (11 + 6 * held) 197) (drop (cond (ltb held 31) (11 + 6 * held) 197) s) ≡ drop (6 * held) (placesIn s)
@@ -37,8 +37,5 @@ module _ (s : List ℕ) (size : length s ≡ 256) where
   tail-scan = take-all 44 (drop 212 s) (simp length-drop (omega arith))
 
   pub clean-tail : stray s ≡ false → tailIn s ≡ zeros 44
-  unfolding stray tailIn
-  clean-tail e =
-      let past-flags = neither (not (blank (drop (6 * headIn s .held) (placesIn s))) || not (blank (drop 212 s))) (flagOver s) e .0 in
-      let blank-tail = not-false _ (neither (not (blank (drop (6 * headIn s .held) (placesIn s)))) (not (blank (drop 212 s))) past-flags .1) in
-      blank-zeros (drop 212 s) blank-tail ∙ ap zeros (length-drop 212 s ∙ omega arith)
+  unfolding tailIn
+  clean-tail e = blank-zeros (drop 212 s) (no-stray s e .tail) ∙ ap zeros (length-drop 212 s ∙ omega arith)

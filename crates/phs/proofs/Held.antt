@@ -1,13 +1,12 @@
 -- The bank that is lent keeps the file's history in slot 0: an opening in the cleared bank starts it, and each push answers as the history rule tells.
-use mathlib.Core.Path.{_≡_, refl, sym, ap, _∙_}
+use mathlib.Core.Path.{_≡_, refl, ap, _∙_}
 use mathlib.Core.Bool.{Bool, true, false}
 use mathlib.Core.List.{List}
 use Prim.Native.Nat.{ℕ}
 use native.Mathlib.Omega.{arith}
 use lib.Dec.{eqb}
-use lib.ListN.{length, take, replicate, length-replicate, replicate-append-replicate}
+use lib.ListN.{length}
 use borrow.Author.Tests.{eq-eqb}
-use lib.Seq.{take-at}
 use Rattle.model.specs.declared.filter.Sample.{Sample}
 use Rattle.feed.specs.declared.Feed.{Feed}
 use Rattle.sampling.specs.Tags.{servedNominal, servedRate, keptRate}
@@ -20,11 +19,13 @@ use Rattle.feed.specs.Ring.{opened, stored, historyOf, endOfTimeOf}
 use Rattle.feed.proofs.Stored.{Fits16}
 use Rattle.feed.proofs.Alike.{told-last, told-on}
 use Rattle.feed.proofs.Meeting.{Keeps, opening-kept, last-same, answer-kept, stored-kept as still-keeps}
-use Rattle.bank.specs.Slot.{slotAt, withSlot, headIn, feedIn, slotOf, freeSlot}
-use Rattle.bank.specs.Damage.{isFree, isOpen, isDamaged}
+use Rattle.bank.specs.Slot.{slotAt, withSlot, headIn, feedIn, slotOf}
+use Rattle.bank.specs.Damage.{isFree, isDamaged}
 use Rattle.bank.specs.Calls.{Outcome, cleared, openedAt, pushedAt}
 use Rattle.bank.proofs.Slots.{same-slot, length-kept}
-use Rattle.bank.proofs.Keeping.{Kept, feed-back, slot-whole, slot-open, kept-undamaged, free-undamaged}
+use Rattle.bank.proofs.Keeping.{Kept, feed-back, slot-whole, slot-open, kept-undamaged, free-undamaged, free-not-open}
+use Rattle.bank.proofs.Blank.{zeros-length}
+use Rattle.bank.proofs.Free.{zeros-slot}
 use Rattle.bank.proofs.KeptOn.{opened-kept, stored-kept}
 use Rattle.phs.specs.Stream.{openedIn}
 
@@ -38,19 +39,6 @@ pub record Holds (bank : List ℕ) (h : History) : Type 0 where
 
 -- ---- opening
 
-zeros-length : length (zeros 4096) ≡ 4096
-unfolding zeros
-zeros-length = length-replicate {A = ℕ} 4096 0
-
--- slot 0 of a cleared bank is free
-zeros-free : slotAt (zeros 4096) 0 ≡ freeSlot
-unfolding slotAt zeros freeSlot
-zeros-free = ap (λ (l : List ℕ). take 256 l) (sym (replicate-append-replicate {A = ℕ} 256 3840 0)) ∙ take-at (replicate 256 0) (replicate 3840 0) 256 (length-replicate {A = ℕ} 256 0)
-
-free-not-open : isOpen freeSlot ≡ false
-unfolding freeSlot zeros
-free-not-open = refl
-
 module _ (bank : List ℕ) (whole : length bank ≡ 4096) (nominal rate soc : ℕ) (served : servedNominal nominal ≡ true) (kept : servedRate nominal rate ≡ true) where
   abbrev fresh : Feed
   fresh = opened nominal rate soc
@@ -61,7 +49,7 @@ module _ (bank : List ℕ) (whole : length bank ≡ 4096) (nominal rate soc : �
 
   pub opening-is : openedIn bank nominal rate soc ≡ record { answer = done; bank = withSlot (zeros 4096) 0 (slotOf fresh) }
   unfolding openedAt
-  opening-is = rw (cleared-is, zeros-length, zeros-free, free-undamaged, free-not-open, served, kept)
+  opening-is = rw (cleared-is, zeros-length 4096, zeros-slot 0 (omega arith), free-undamaged, free-not-open, served, kept)
 
   rate-is : keptRate nominal rate ≡ rate
   rate-is = kept-again nominal rate served kept
@@ -75,8 +63,8 @@ module _ (bank : List ℕ) (whole : length bank ≡ 4096) (nominal rate soc : �
   pub opening-holds : Holds (withSlot (zeros 4096) 0 (slotOf fresh)) (opening nominal rate soc)
   opening-holds = record {
     feed = fresh;
-    whole = length-kept (zeros 4096) 0 zeros-length (omega arith) (slotOf fresh) fresh-slot;
-    there = same-slot (zeros 4096) 0 zeros-length (omega arith) (slotOf fresh) fresh-slot;
+    whole = length-kept (zeros 4096) 0 (zeros-length 4096) (omega arith) (slotOf fresh) fresh-slot;
+    there = same-slot (zeros 4096) 0 (zeros-length 4096) (omega arith) (slotOf fresh) fresh-slot;
     kept = fresh-kept;
     keeps = opening-kept nominal rate soc served (ap (servedRate nominal) rate-is ∙ kept);
   }

@@ -4,37 +4,21 @@ use mathlib.Core.Bool.{true, false}
 use mathlib.Core.List.{List, _++_}
 use Prim.Native.Nat.{ℕ, _+_, _-_, _*_, _≤_, _<_}
 use native.Mathlib.Omega.{arith}
-use lib.ListN.{length, getD, take, drop, length-append, length-replicate, replicate-append-replicate, List·getD-append}
+use lib.ListN.{length, getD, take, drop, length-append, List·getD-append}
 use lib.Seq.{take-at, drop-at, take-length, take-append-le, take-take, getD-take, drop-drop, length-take-le}
 use Rattle.feed.specs.Places.{zeros}
 use Rattle.feed.specs.Ring.{faulty, nextNumberOf, historyOf}
 use Rattle.feed.proofs.Sound.{sound}
 use Rattle.bank.specs.Slot.{stateIn, headIn, placesIn, tailIn, feedIn, freeSlot, workedOutIn}
 use Rattle.bank.specs.Damage.{isDamaged, onlyStray}
-use Rattle.bank.proofs.Blank.{zeros-blank}
+use Rattle.bank.proofs.Blank.{zeros-blank, zeros-length, zeros-front, zeros-rest}
 use Rattle.bank.proofs.Slots.{drop-take}
-use Rattle.bank.proofs.Parts.{places-length}
+use Rattle.bank.proofs.Parts.{places-length, same-numbers}
 use Rattle.bank.proofs.Held.{held-same}
 use Rattle.bank.proofs.States.{only-stray}
 use Rattle.bank.proofs.Angles.{worked-sound}
 use Rattle.salvage.specs.Slots.{filledTo, trimmed}
 use Rattle.salvage.proofs.Fates.{stray-held}
-
--- ---- zeros in two parts
-
-zeros-length : (n : ℕ) → length (zeros n) ≡ n
-unfolding zeros
-zeros-length n = length-replicate {A = ℕ} n 0
-
-zeros-parts : (n m k : ℕ) → n + m ≡ k → zeros k ≡ zeros n ++ zeros m
-unfolding zeros
-zeros-parts n m k e = sym (replicate-append-replicate n m 0 ∙ ap zeros e)
-
-zeros-front : (n m k : ℕ) → n + m ≡ k → take n (zeros k) ≡ zeros n
-zeros-front n m k e = ap (λ (l : List ℕ). take n l) (zeros-parts n m k e) ∙ take-at (zeros n) (zeros m) n (zeros-length n)
-
-zeros-rest : (n m k : ℕ) → n + m ≡ k → drop n (zeros k) ≡ zeros m
-zeros-rest n m k e = ap (λ (l : List ℕ). drop n l) (zeros-parts n m k e) ∙ drop-at (zeros n) (zeros m) n (zeros-length n)
 
 -- bytes copied over a free slot stand before zeros
 pub over-free : (l f : List ℕ) (n : ℕ) → length l ≡ n → n ≤ 256 → f ≡ freeSlot → take (length l) l ++ drop (length l) f ≡ l ++ zeros (256 - n)
@@ -60,21 +44,8 @@ module _ (s : List ℕ) (size : length s ≡ 256) (held : headIn s .held ≤ 31)
       List·getD-append (take kept s) (zeros (256 - kept)) 0 i (omega (arith, front))
       ∙ getD-take kept s i 0 (omega arith)
 
-  pub same-head : headIn (trimmed s) ≡ headIn s
-  unfolding headIn
-  same-head =
-      rw (
-        low 1 (omega arith),
-        low 2 (omega arith),
-        low 3 (omega arith),
-        low 4 (omega arith),
-        low 5 (omega arith),
-        low 6 (omega arith),
-        low 7 (omega arith),
-        low 8 (omega arith),
-        low 9 (omega arith),
-        low 10 (omega arith),
-      )
+  same-head : headIn (trimmed s) ≡ headIn s
+  same-head = same-numbers (trimmed s) s low
 
   rest : drop kept (trimmed s) ≡ zeros (256 - kept)
   unfolding trimmed
