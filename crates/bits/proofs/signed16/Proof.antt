@@ -9,20 +9,20 @@ use borrow.Author.Rules.{rules}
 use Rattle.bits.proofs.signed16.Statement.{statement}
 use Rattle.bits.proofs.signed16.Tie as tie
 
-cast-result : tie.Need-overflow-cast-result
+cast-result : tie.Need-overflow_cast-result
 cast-result c = search rules
 
-cast-result-2 : tie.Need-overflow-cast-result-2
+cast-result-2 : tie.Need-overflow_cast-result-else-n-lt32768
 cast-result-2 c = search rules
 
-returns : tie.Need-returns
+returns : tie.Need-returns-then-n-lt32768
 returns c = reads_16 c.before.args.n c.before.ranges.n.fits
 
-returns-2 : tie.Need-returns-2
+returns-2 : tie.Need-returns-else-n-lt32768
 returns-2 c =
     let n = c.before.args.n in
     let e : (2 ^ 16 - 1) - ((2 ^ 16 - 1) - n) ≡ n = omega (arith, c.before.ranges.n.fits) in
     ap (to_z w16) e ∙ reads_16 n c.before.ranges.n.fits
 
-pub signed16-spec : {M : Type 1} → statement M
-signed16-spec = tie.close (tie.spec cast-result cast-result-2 returns returns-2)
+pub signed16_spec : {M : Type 1} → statement M
+signed16_spec = tie.close (tie.spec cast-result cast-result-2 returns returns-2)

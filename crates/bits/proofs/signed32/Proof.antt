@@ -9,20 +9,20 @@ use borrow.Author.Rules.{rules}
 use Rattle.bits.proofs.signed32.Statement.{statement}
 use Rattle.bits.proofs.signed32.Tie as tie
 
-cast-result : tie.Need-overflow-cast-result
+cast-result : tie.Need-overflow_cast-result
 cast-result c = search rules
 
-cast-result-2 : tie.Need-overflow-cast-result-2
+cast-result-2 : tie.Need-overflow_cast-result-else-n-lt2147483648
 cast-result-2 c = search rules
 
-returns : tie.Need-returns
+returns : tie.Need-returns-then-n-lt2147483648
 returns c = reads_32 c.before.args.n c.before.ranges.n.fits
 
-returns-2 : tie.Need-returns-2
+returns-2 : tie.Need-returns-else-n-lt2147483648
 returns-2 c =
     let n = c.before.args.n in
     let e : (2 ^ 32 - 1) - ((2 ^ 32 - 1) - n) ≡ n = omega (arith, c.before.ranges.n.fits) in
     ap (to_z w32) e ∙ reads_32 n c.before.ranges.n.fits
 
-pub signed32-spec : {M : Type 1} → statement M
-signed32-spec = tie.close (tie.spec cast-result cast-result-2 returns returns-2)
+pub signed32_spec : {M : Type 1} → statement M
+signed32_spec = tie.close (tie.spec cast-result cast-result-2 returns returns-2)

@@ -20,20 +20,20 @@ back s = to_z-of_z {w = w64} {z = s.args.count} s.ranges.count
 tested : (s : tie.Start) (b : Bool) → lt_z (to_z w64 (of_z w64 s.args.count)) (pos 0) ≡ b → lt_z s.args.count (pos 0) ≡ b
 tested s b e = subst (λ (z : ℤ). lt_z z (pos 0) ≡ b) (back s) e
 
-abbrev brought : (c : tie.Else2) → Some c.before.before.args.count
-brought c = some c.before.before.args.count c.before.before.ranges.count (tested c.before.before false c.before.if1.false) c.if2.false
+abbrev brought : (c : tie.Else-count-eq0) → Some c.before.before.args.count
+brought c = some c.before.before.args.count c.before.before.ranges.count (tested c.before.before false c.before.if-count-lt0.false) c.if-count-eq0.false
 
-returns : tie.Need-returns
-returns c = failed c.before.args.count (tested c.before true c.if1.true)
+returns : tie.Need-returns-then-count-lt0
+returns c = failed c.before.args.count (tested c.before true c.if-count-lt0.true)
 
-returns-2 : tie.Need-returns-2
-returns-2 c = ended c.before.before.args.count (tested c.before.before false c.before.if1.false) c.if2.true
+returns-2 : tie.Need-returns-then-count-eq0
+returns-2 c = ended c.before.before.args.count (tested c.before.before false c.before.if-count-lt0.false) c.if-count-eq0.true
 
-cast-t3 : tie.Need-overflow-cast-t3
+cast-t3 : tie.Need-overflow_cast-result
 cast-t3 c = subst (λ (z : ℤ). T (non_neg z) × Fits w64 (nat_abs z)) (sym (back c.before.before)) ((brought c).up, (brought c).small)
 
-returns-3 : tie.Need-returns-3
+returns-3 : tie.Need-returns
 returns-3 c = ap (λ (z : ℤ). Bytes (nat_abs z)) (back c.before.before) ∙ (brought c).is
 
-pub meaning-spec : {M : Type 1} → statement M
-meaning-spec = tie.close (tie.spec returns returns-2 cast-t3 returns-3)
+pub meaning_spec : {M : Type 1} → statement M
+meaning_spec = tie.close (tie.spec returns returns-2 cast-t3 returns-3)

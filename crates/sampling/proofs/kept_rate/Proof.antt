@@ -4,13 +4,13 @@ use Rattle.sampling.specs.Tags.{kept_rate}
 use Rattle.sampling.proofs.kept_rate.Statement.{statement}
 use Rattle.sampling.proofs.kept_rate.Tie as tie
 
-returns : tie.Need-returns
+returns : tie.Need-returns-then-rate-eq0
 unfolding kept_rate
-returns c = simp c.if1.true
+returns c = simp c.if-rate-eq0.true
 
-returns-2 : tie.Need-returns-2
+returns-2 : tie.Need-returns
 unfolding kept_rate
-returns-2 c = simp (ne_eqb _ _ c.if1.false)
+returns-2 c = simp (ne_eqb _ _ c.if-rate-eq0.false)
 
-pub kept-rate-spec : {M : Type 1} → statement M
-kept-rate-spec = tie.close (tie.spec returns returns-2)
+pub kept_rate_spec : {M : Type 1} → statement M
+kept_rate_spec = tie.close (tie.spec returns returns-2)

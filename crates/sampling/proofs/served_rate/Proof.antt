@@ -5,17 +5,17 @@ use Rattle.sampling.specs.Tags.{served_rate}
 use Rattle.sampling.proofs.served_rate.Statement.{statement}
 use Rattle.sampling.proofs.served_rate.Tie as tie
 
-returns : tie.Need-returns
+returns : tie.Need-returns-then-nominal-eq50
 unfolding served_rate
-returns c = simp (c.if1.true, or_assoc, or-false)
+returns c = simp (c.if-nominal-eq50.true, or_assoc, or-false)
 
-returns-2 : tie.Need-returns-2
+returns-2 : tie.Need-returns-then-nominal-eq60
 unfolding served_rate
-returns-2 c = simp (c.if2.true, or_assoc, or-false)
+returns-2 c = simp (c.if-nominal-eq60.true, or_assoc, or-false)
 
-returns-3 : tie.Need-returns-3
+returns-3 : tie.Need-returns
 unfolding served_rate
-returns-3 c = simp (ne_eqb _ _ c.before.if1.false, ne_eqb _ _ c.if2.false)
+returns-3 c = simp (ne_eqb _ _ c.before.if-nominal-eq50.false, ne_eqb _ _ c.if-nominal-eq60.false)
 
-pub served-rate-spec : {M : Type 1} → statement M
-served-rate-spec = tie.close (tie.spec returns returns-2 returns-3)
+pub served_rate_spec : {M : Type 1} → statement M
+served_rate_spec = tie.close (tie.spec returns returns-2 returns-3)
