@@ -5,7 +5,7 @@ ghost use Rattle.bank.specs.Damage.{blank, stray, is_damaged, damage_of};
 use crate::slot::read_head;
 
 // How a slot is damaged.
-#[derive(Drop)]
+#[derive(Clone, Copy)]
 pub enum Damage {
     // not at all
     None,

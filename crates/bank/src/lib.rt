@@ -1,4 +1,6 @@
 // Sixteen feeds in 4096 lent bytes: damage, clearing, opening, pushing and closing.
+#![tactic(auto)]
+
 mod closing;
 mod damage;
 mod opening;
@@ -17,7 +19,7 @@ pub use slot::worked_out;
 use slot::{Found, find, zero};
 
 // What clearing, opening and closing answer.
-#[derive(Drop)]
+#[derive(Clone, Copy)]
 pub enum Settled {
     Refused(u8),
     Done,

@@ -9,7 +9,7 @@ use feed::{Feed, Head, place_of};
 use model::{Angle, Phase, Phases, Sample};
 
 // Where a slot begins in its bank, or the refusal.
-#[derive(Drop)]
+#[derive(Clone, Copy)]
 pub(crate) enum Found {
     Refused(u8),
     At(usize),

@@ -1,4 +1,6 @@
 // Numbers of 16 and 32 bits: in bytes, big-endian, and read as signed numbers.
+#![tactic(auto)]
+
 ghost use Rattle.std.specs.Prelude.{◌≡◌};
 ghost use Rattle.bits.specs.Bits.{be16, be32, signed16, signed32};
 

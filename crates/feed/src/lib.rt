@@ -1,4 +1,6 @@
 // One feed as a value: its head, its thirty-one places, the three phases that it keeps, and what a sample does to it.
+#![tactic(auto)]
+
 mod places;
 
 ghost use Rattle.std.specs.Prelude.{◌≡◌, false, cond, ◌%◌, ◌≤◌, eqb};
@@ -16,7 +18,7 @@ pub use places::{place_of, sample_of};
 use sampling::{kept_rate, nominal_of, served_nominal, served_rate};
 
 // The numbers of a feed: what it is opened with, how many samples it holds, where the next one stands and where it goes.
-#[derive(Drop)]
+#[derive(Clone, Copy)]
 pub struct Head {
     pub nominal: u8,
     pub rate: u8,
@@ -38,7 +40,7 @@ pub struct Feed {
 }
 
 // A report: its tag, then the figures at its centre.
-#[derive(Drop)]
+#[derive(Clone, Copy)]
 pub struct Report {
     pub soc: u32,
     pub frame: u8,
@@ -57,7 +59,7 @@ pub struct Report {
 }
 
 // What a push answers: refused, taken without a report, or taken with one.
-#[derive(Drop)]
+#[derive(Clone, Copy)]
 pub enum Answer {
     Refused(u8),
     Taken,
@@ -101,7 +103,7 @@ fn moved_on(kept: Phases, newest: Phase) -> Phases
 }
 
 // Where a report's centre stands: its SOC, and its index in the second.
-#[derive(Drop)]
+#[derive(Clone, Copy)]
 struct Centre {
     soc: u32,
     index: u16,

@@ -1,7 +1,7 @@
 // Document 02, CR 4: what the bench supplies.
 
 // What the bench configured.
-#[derive(Drop)]
+#[derive(Clone, Copy)]
 pub struct Configured {
     pub nominal: u8,
     // reports a second
@@ -12,7 +12,7 @@ pub struct Configured {
 }
 
 // The tag that the bench expects.
-#[derive(Drop)]
+#[derive(Clone, Copy)]
 pub struct Tag {
     pub soc: u32,
     pub frame: u32,

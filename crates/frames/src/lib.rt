@@ -1,4 +1,6 @@
 // Document 02, CR 4: the reading of one C37.118.2 data frame that a device sends.
+#![tactic(auto)]
+
 mod bench;
 mod checksum;
 mod fields;
@@ -16,7 +18,7 @@ use tags::agrees;
 use verdict::Device;
 
 // What a frame says: refused, or the four figures as they are and, aside, the time quality.
-#[derive(Drop)]
+#[derive(Clone, Copy)]
 pub enum Frame {
     Refused(u8),
     Reads { device: Device, quality: u8 },

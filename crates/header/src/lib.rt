@@ -1,4 +1,6 @@
 // Document 01, "PHS files and the listing", with CR 2: the eleven bytes of a header.
+#![tactic(auto)]
+
 ghost use Rattle.std.specs.Prelude.{◌≡◌, ◌<◌, length};
 ghost use Rattle.bits.specs.Bits.{be16};
 ghost use Rattle.header.specs.Header.{Heading, is_mark, meant_rate};
@@ -6,7 +8,7 @@ ghost use Rattle.header.specs.Header.{Heading, is_mark, meant_rate};
 use bits::{be16, be32};
 
 // What a header says: refused, or the version and what it opens a feed with, the rate being the one kept.
-#[derive(Drop)]
+#[derive(Clone, Copy)]
 pub enum Header {
     Refused(u8),
     Opens {

@@ -1,4 +1,6 @@
 // The listing of the PHS file that a descriptor is read from, written to another, through lent buffers.
+#![tactic(auto)]
+
 ghost use Rattle.std.specs.Prelude.{◌≡◌, false, ◌≤◌, length};
 ghost use Rattle.libc.specs.Io.{Moved};
 ghost use Rattle.phs.specs.Lines.{line_room};
@@ -13,7 +15,7 @@ use reads::Brought;
 const LINE: usize = 256;
 
 // How a listing ends.
-#[derive(Drop)]
+#[derive(Clone, Copy)]
 pub enum Ending {
     // it is written to its last line, a refusal's among them
     Listed,
@@ -28,7 +30,7 @@ pub enum Ending {
 }
 
 // Whether the listing goes on.
-#[derive(Drop)]
+#[derive(Clone, Copy)]
 enum State {
     Going,
     // the input has ended, or a refusal is said

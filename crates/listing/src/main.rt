@@ -1,4 +1,6 @@
 // Lists the PHS file on standard input. Its text goes to standard output, in parts of at most 64 KiB.
+#![tactic(auto)]
+
 use libc::{STDERR_FILENO, STDIN_FILENO, STDOUT_FILENO};
 use lister::Ending;
 

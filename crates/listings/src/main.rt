@@ -1,5 +1,7 @@
 // Lists the stored files of its folder in turn, through `lister::list`: every refusal of a file, both nominals and versions, feeders without a phase,
 // short files and long ones.
+#![tactic(auto)]
+
 use libc::STDOUT_FILENO;
 use lister::Ending;
 

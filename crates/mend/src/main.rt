@@ -1,4 +1,6 @@
 // Mends the bank image on standard input: the mended image goes to standard output, and then a line for each slot to standard error.
+#![tactic(auto)]
+
 ghost use Rattle.std.specs.Prelude.{◌+◌, ◌≤◌, ◌<◌, length};
 
 use libc::{STDERR_FILENO, STDIN_FILENO, STDOUT_FILENO};

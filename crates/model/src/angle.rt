@@ -7,7 +7,7 @@ ghost use Rattle.model.specs.Bounds.{Sized, Small, cap};
 use crate::filter::Phasor;
 
 // A whole number of 2^32nds of a turn, kept modulo 2^32.
-#[derive(Drop)]
+#[derive(Clone, Copy)]
 pub struct Angle {
     pub parts: u32,
 }
@@ -45,14 +45,14 @@ impl Angle {
 }
 
 // The angle at a centre, or none: then the angle is 0.
-#[derive(Drop)]
+#[derive(Clone, Copy)]
 pub struct Phase {
     pub angle: Angle,
     pub none: bool,
 }
 
 // What a step leaves: the two parts, and the angle so far.
-#[derive(Drop)]
+#[derive(Clone, Copy)]
 struct Turning {
     re: i64,
     im: i64,

@@ -4,7 +4,7 @@ ghost use Rattle.model.specs.Filter.{weight, offset, entry_at, phase_sum, weight
 ghost use Rattle.model.specs.Bounds.{TwoTurns, Tabled, FirstTerms, Sized, Small};
 
 // One sample of the three phases.
-#[derive(Drop)]
+#[derive(Clone, Copy)]
 pub struct Sample {
     pub a: i16,
     pub b: i16,
@@ -12,14 +12,14 @@ pub struct Sample {
 }
 
 // The positive sequence at a centre, as the filter's sums give it.
-#[derive(Drop)]
+#[derive(Clone, Copy)]
 pub(crate) struct Phasor {
     pub(crate) re: i64,
     pub(crate) im: i64,
 }
 
 // Both sums over the samples: with the cosines, and the same with the sines.
-#[derive(Drop)]
+#[derive(Clone, Copy)]
 struct Sums {
     cosine: i64,
     sine: i64,

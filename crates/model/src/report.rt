@@ -10,7 +10,7 @@ use bits::signed32;
 use sampling::Nominal;
 
 // A report without its tag: whole numbers, and four floats.
-#[derive(Drop)]
+#[derive(Clone, Copy)]
 pub struct Figures {
     pub re: i64,
     pub im: i64,
@@ -27,7 +27,7 @@ pub struct Figures {
 }
 
 // The phases at three centres in turn, the oldest first: p, q and r of a report.
-#[derive(Drop)]
+#[derive(Clone, Copy)]
 pub struct Phases {
     pub p: Phase,
     pub q: Phase,
@@ -35,7 +35,7 @@ pub struct Phases {
 }
 
 // The limit below which re and im have no phase, and the number that each is divided by to give peak counts.
-#[derive(Drop)]
+#[derive(Clone, Copy)]
 struct Scale {
     limit: u32,
     divisor: u32,
@@ -48,7 +48,7 @@ const THREE_PHASE: Scale = Scale {
 };
 
 // d1 and d2, and the no-phase mark.
-#[derive(Drop)]
+#[derive(Clone, Copy)]
 struct Differences {
     d1: i32,
     d2: i32,

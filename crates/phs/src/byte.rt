@@ -10,7 +10,7 @@ use crate::sample::sample_at;
 use crate::{Reader, Stage};
 
 // The reader after a byte, and where the text ends.
-#[derive(Drop)]
+#[derive(Clone, Copy)]
 pub(crate) struct Step {
     pub(crate) reader: Reader,
     pub(crate) at: usize,

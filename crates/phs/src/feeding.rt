@@ -13,7 +13,7 @@ use header::{Header, read_header};
 use model::Sample;
 
 // What a whole header or sample leads to: whether the listing is over, the counts, and where the text ends.
-#[derive(Drop)]
+#[derive(Clone, Copy)]
 pub(crate) struct Led {
     pub(crate) over: bool,
     pub(crate) reports: u64,

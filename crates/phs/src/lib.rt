@@ -1,4 +1,6 @@
 // PHS sample files and their listing: a reader by value takes parts of a file, and text goes into a lent buffer.
+#![tactic(auto)]
+
 mod byte;
 mod feeding;
 mod line;
@@ -18,7 +20,7 @@ use sample::sample_at;
 const LINE: usize = 256;
 
 // Where in the file a reader stands.
-#[derive(Drop)]
+#[derive(Clone, Copy)]
 pub enum Stage {
     InHeader,
     InSamples,

@@ -1,9 +1,11 @@
 // What a read brought, by the count that it answered. Nothing is read here.
+#![tactic(auto)]
+
 ghost use Rattle.std.specs.Prelude.{◌≡◌};
 ghost use Rattle.reads.specs.Counts.{meaning};
 
 // What a read brought.
-#[derive(Drop)]
+#[derive(Clone, Copy)]
 pub enum Brought {
     // nothing: it failed
     Failed,

@@ -1,4 +1,6 @@
 // Runs a script of calls from standard input on the library, and prints a line for each answer.
+#![tactic(auto)]
+
 mod calls;
 mod lines;
 mod script;
@@ -13,7 +15,7 @@ use script::{byte_at, length_of};
 const LINE: usize = 1024;
 
 // What follows the records that were run.
-#[derive(Drop)]
+#[derive(Clone, Copy)]
 enum Next {
     // more of the script
     More,

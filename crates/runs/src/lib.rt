@@ -1,4 +1,6 @@
 // The same measurement over three whole lent runs: document 01, "The report", last paragraph.
+#![tactic(auto)]
+
 ghost use Rattle.std.specs.Prelude.{◌≡◌, ◌+◌, ◌≤◌, length};
 ghost use Rattle.model.specs.Filter.{lent_samples};
 ghost use Rattle.runs.specs.Runs.{sample_at, differ, no_centre, RunMeasuring};
@@ -7,7 +9,7 @@ ghost use Rattle.runs.specs.Inside.{samples_from};
 use model::Figures;
 
 // The report without a tag, or a refusal.
-#[derive(Drop)]
+#[derive(Clone, Copy)]
 pub enum Measured {
     Refused(u8),
     Given(Figures),

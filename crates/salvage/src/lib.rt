@@ -1,4 +1,6 @@
 // Document 02, CR 3 with CR 6: the salvage of a bank image in lent bytes, slot by slot.
+#![tactic(auto)]
+
 mod slot;
 
 ghost use Rattle.std.specs.Prelude.{◌≡◌, length};
@@ -7,7 +9,7 @@ ghost use Rattle.salvage.specs.Image.{mended_image, told_of, all_sound, Mending}
 use slot::mend_slot;
 
 // What becomes of a slot.
-#[derive(Drop)]
+#[derive(Clone, Copy)]
 pub enum Fate {
     // it stays as it is
     Sound,
@@ -18,7 +20,7 @@ pub enum Fate {
 }
 
 // What is said of a slot.
-#[derive(Drop)]
+#[derive(Clone, Copy)]
 pub struct MendedSlot {
     pub fate: Fate,
     // how many of its 256 bytes differ from before
@@ -26,7 +28,7 @@ pub struct MendedSlot {
 }
 
 // How a salvage ends.
-#[derive(Drop)]
+#[derive(Clone, Copy)]
 pub enum Ending {
     Refused(u8),
     Mended,

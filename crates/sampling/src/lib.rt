@@ -1,10 +1,12 @@
 // Document 01, "Sampling and tags", with CR 2: the nominal frequency and its sampling, and which rates are served.
+#![tactic(auto)]
+
 ghost use Rattle.std.specs.Prelude.{◌≡◌};
 ghost use Rattle.sampling.specs.Sampling.{sampling};
 ghost use Rattle.sampling.specs.Tags.{served_nominal, served_rate, kept_rate, nominal_of};
 
 // Nominal frequency: 50 or 60 Hz.
-#[derive(Drop)]
+#[derive(Clone, Copy)]
 pub enum Nominal {
     Fifty,
     Sixty,

@@ -1,4 +1,6 @@
 // Lines of text in lent bytes: decimal and hexadecimal numbers, and words.
+#![tactic(auto)]
+
 mod number;
 
 ghost use Rattle.std.specs.Prelude.{◌≡◌, ◌+◌, ◌*◌, ◌≤◌, leb, length};
@@ -6,7 +8,7 @@ ghost use Rattle.text.specs.Text.{hex_bytes};
 ghost use Rattle.text.specs.Put.{Put, Wrote, spelt, filled, room_for};
 
 // What stands for a `%` of a line's form.
-#[derive(Drop)]
+#[derive(Clone, Copy)]
 pub enum Word {
     // a count, in decimal
     Number(u64),

@@ -4,7 +4,7 @@ ghost use Rattle.verdict.specs.Inside.{Small};
 ghost use Rattle.verdict.specs.Errors.{squares, error_squared, apart_by, errors_of};
 
 // A device report: the phasor in counts, the frequency deviation in mHz, ROCOF in hundredths of Hz/s.
-#[derive(Drop)]
+#[derive(Clone, Copy)]
 pub struct Device {
     pub re: i16,
     pub im: i16,
@@ -13,7 +13,7 @@ pub struct Device {
 }
 
 // The reference figures: the phasor in the same counts, the frequency deviation in µHz, ROCOF in µHz/s.
-#[derive(Drop)]
+#[derive(Clone, Copy)]
 pub struct Reference {
     pub re: i16,
     pub im: i16,
@@ -22,7 +22,7 @@ pub struct Reference {
 }
 
 // How far a report is from its reference.
-#[derive(Drop)]
+#[derive(Clone, Copy)]
 pub(crate) struct Errors {
     // dr² + di²
     pub(crate) error_squared: u64,

@@ -7,7 +7,7 @@ use crate::errors::{Device, Errors, Reference, errors_of};
 use crate::limits::{Limits, limits_for};
 
 // Whether each error is within its limit.
-#[derive(Drop)]
+#[derive(Clone, Copy)]
 pub struct Verdict {
     pub tve: bool,
     pub fe: bool,
@@ -15,7 +15,7 @@ pub struct Verdict {
 }
 
 // What judging answers: a refusal, "left out", or the verdicts.
-#[derive(Drop)]
+#[derive(Clone, Copy)]
 pub enum Judged {
     // a refusal's number, alone
     Refused(u8),

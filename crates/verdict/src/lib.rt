@@ -1,4 +1,6 @@
 // The judging of one device report against the reference figures that the bench supplies.
+#![tactic(auto)]
+
 mod errors;
 mod judging;
 mod limits;

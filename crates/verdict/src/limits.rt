@@ -3,7 +3,7 @@ ghost use Rattle.std.specs.Prelude.{◌≡◌, ◌<◌};
 ghost use Rattle.verdict.specs.Limits.{limits_in, limits_for};
 
 // Three to each class and test: TVE in percent, FE in µHz, RFE in µHz/s.
-#[derive(Drop)]
+#[derive(Clone, Copy)]
 pub struct Limits {
     pub tve: u8,
     pub fe: u32,
