@@ -1,10 +1,5 @@
 -- Calls in a row on what is left of a part read it byte by byte, with no byte left out. Assumes nothing.
-use mathlib.Core.Path.{◌≡◌, refl, sym, ap, ap₂, ◌∙◌, subst}
-use mathlib.Core.List.{List}
-use Prim.Native.Nat.{ℕ, ◌+◌, ◌-◌, ◌≤◌}
-use native.Mathlib.Omega.{arith}
-use lib.ListN.{length, take, drop, length-drop}
-use lib.Seq.{length-take-le, take-take, take-add, take-length}
+use Rattle.std.proofs.Common.{◌≡◌, refl, sym, ap, ◌∙◌, List, ℕ, ◌+◌, ◌-◌, ◌≤◌, arith, length, take, drop, length-drop, length-take-le, take-take, take-add, ap₂}
 use Rattle.phs.specs.declared.Reader.{Reader}
 use Rattle.phs.specs.declared.Moved.{Moved}
 use Rattle.phs.specs.Stream.{Left, after, stream, Reading}
@@ -36,8 +31,3 @@ one_more r bank part i q between out m bank' out' h f p =
     ∙ ap (λ (l : List ℕ). after (stream r bank (take i part)) (stream q between l)) (sym read)
     ∙ ap (after (stream r bank (take i part))) (call_stream p) in
     record { reader_is = ap (λ (n : Left). n.reader) e; bank_is = ap (λ (n : Left). n.bank) e }
-
--- calls that have come to the end have read all of the part
-pub all_read : (r : Reader) (bank part : List ℕ) (i : ℕ) (q : Reader) (bank' : List ℕ) → i ≡ length part → Flowed r bank (take i part) q bank'
-    → Flowed r bank part q bank'
-all_read r bank part i q bank' e f = subst (λ (l : List ℕ). Flowed r bank l q bank') (ap (λ (n : ℕ). take n part) e ∙ take-length part) f

@@ -1,5 +1,4 @@
 -- The laws of `lister`.
 pub mod Given
-pub mod Endings
 pub mod Counted
 pub mod Says

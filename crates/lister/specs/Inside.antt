@@ -1,5 +1,5 @@
 -- What the functions inside promise of one read, by its count: all that it brings is read, and the input ends with a count of 0 or a refusal.
-use Rattle.std.specs.Prelude.{◌≡◌, List, ℕ, take}
+use Rattle.std.specs.Prelude.{◌≡◌, ◌≤◌, List, ℕ, ℤ, pos, negsuc, take}
 use Rattle.phs.specs.declared.Reader.{Reader}
 use Rattle.phs.specs.declared.Stage.{Stage}
 use Rattle.phs.specs.declared.Stage.TheVariants.{InHeader, InSamples, Over}
@@ -9,6 +9,11 @@ use Rattle.reads.specs.declared.Brought.TheVariants.{Failed, End, Bytes}
 use Rattle.lister.specs.declared.State.{State}
 use Rattle.lister.specs.declared.State.TheVariants.{Going, Ended, Unread, Unwritten}
 use Rattle.lister.specs.declared.Turn.{Turn}
+
+-- the count of a read into a buffer of n bytes: -1, or how many bytes it brought, at most n
+abbrev pub Moved : ℕ → ℤ → Type 0
+Moved n (pos k) = k ≤ n
+Moved n (negsuc k) = k ≡ 0
 
 -- after a refusal no more is read
 abbrev pub state_after : Stage → State

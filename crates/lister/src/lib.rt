@@ -1,15 +1,15 @@
-// The listing of the PHS file that a descriptor is read from, written to another, through lent buffers.
+// The listing of the PHS file that a reader gives, written to a writer, through lent buffers.
 #![tactic(auto)]
 
 ghost use Rattle.std.specs.Prelude.{◌≡◌, false, ◌≤◌, length};
-ghost use Rattle.libc.specs.Io.{Moved};
 ghost use Rattle.phs.specs.Lines.{line_room};
 ghost use Rattle.reads.specs.Counts.{meaning};
 ghost use Rattle.lister.specs.Listing.{is_no_room, Lists};
-ghost use Rattle.lister.specs.Inside.{state_after, Gives, Comes};
+ghost use Rattle.lister.specs.Inside.{Moved, state_after, Gives, Comes};
 
 use phs::{Reader, Stage};
 use reads::Brought;
+use std::io::{ErrorKind, Read, Write};
 
 // The room that any line has enough of.
 const LINE: usize = 256;
@@ -46,9 +46,15 @@ struct Turn {
     state: State,
 }
 
-// Reads the file from one descriptor, a part at a time to its end or to its refusal, and writes the listing to the other. A whole header clears
+// Reads the file from the reader, a part at a time to its end or to its refusal, and writes the listing to the writer. A whole header clears
 // the bank and opens slot 0, which stays open; of a bank that is not 4096 bytes the listing is `refused 1`.
-pub fn list(bank: &mut [u8], input: &mut [u8], out: &mut [u8], from: i32, to: i32) -> Ending
+pub fn list<R: Read, W: Write>(
+    bank: &mut [u8],
+    input: &mut [u8],
+    out: &mut [u8],
+    from: &mut R,
+    to: &mut W,
+) -> Ending
     ensures { Lists bank.old input.old out.old result bank.new input.new out.new }
 {
     if (input.len() == 0) | (out.len() < LINE) {
@@ -58,15 +64,19 @@ pub fn list(bank: &mut [u8], input: &mut [u8], out: &mut [u8], from: i32, to: i3
 }
 
 // The whole input, a read at a time, or as far as a refusal.
-fn list_all(bank: &mut [u8], input: &mut [u8], out: &mut [u8], from: i32, to: i32) -> Ending
+fn list_all<R: Read, W: Write>(
+    bank: &mut [u8],
+    input: &mut [u8],
+    out: &mut [u8],
+    from: &mut R,
+    to: &mut W,
+) -> Ending
     requires { line_room ≤ length out.old }
     ensures { is_no_room result ≡ false }
 {
     let mut reader = phs::start();
     // A loop has to end: these are more reads than a run can make.
-    let mut turns = u64::MAX;
-    while turns > 0 {
-        turns -= 1;
+    for _ in 0..u64::MAX {
         let t = read_some(reader, bank, input, out, from, to);
         reader = t.reader;
         let state = t.state;
@@ -87,22 +97,46 @@ fn list_all(bank: &mut [u8], input: &mut [u8], out: &mut [u8], from: i32, to: i3
 }
 
 // One read of the input, and the text of what it brings.
-fn read_some(
+fn read_some<R: Read, W: Write>(
     r: Reader,
     bank: &mut [u8],
     input: &mut [u8],
     out: &mut [u8],
-    from: i32,
-    to: i32,
+    from: &mut R,
+    to: &mut W,
 ) -> Turn
     requires { line_room ≤ length out.old }
 {
-    let got = libc::read(from, input);
+    let got = read(from, input);
     take(r, bank, input, got, out, to)
 }
 
+// The count of one read: -1 where it fails. One that a signal interrupts is made again.
+fn read<R: Read>(from: &mut R, input: &mut [u8]) -> isize
+    ensures { Moved (length input.new) result }
+{
+    for _ in 0..u64::MAX {
+        match from.read(input) {
+            Ok(n) => return n as isize,
+            Err(e) => {
+                if e.kind() != ErrorKind::Interrupted {
+                    return -1;
+                }
+            }
+        }
+    }
+    -1
+}
+
 // What a read brought, by the count that it answered.
-fn take(r: Reader, bank: &mut [u8], input: &[u8], got: isize, out: &mut [u8], to: i32) -> Turn
+fn take<W: Write>(
+    r: Reader,
+    bank: &mut [u8],
+    input: &[u8],
+    got: isize,
+    out: &mut [u8],
+    to: &mut W,
+) -> Turn
     requires { (line_room ≤ length out.old) × Moved (length input.now) got }
     ensures { Comes r bank.old input.now result bank.new (meaning got) }
 {
@@ -121,7 +155,7 @@ fn take(r: Reader, bank: &mut [u8], input: &[u8], got: isize, out: &mut [u8], to
 }
 
 // All of the part. What follows a refusal in it is passed over.
-fn give(r: Reader, bank: &mut [u8], part: &[u8], out: &mut [u8], to: i32) -> Turn
+fn give<W: Write>(r: Reader, bank: &mut [u8], part: &[u8], out: &mut [u8], to: &mut W) -> Turn
     requires { line_room ≤ length out.old }
     ensures { Gives r bank.old part.now result bank.new }
 {
@@ -131,7 +165,7 @@ fn give(r: Reader, bank: &mut [u8], part: &[u8], out: &mut [u8], to: i32) -> Tur
         let m = phs::read_part(reader, bank, &part[i..], out);
         reader = m.reader;
         let written = m.written;
-        if !io::write_all(to, &out[..written]) {
+        if to.write_all(&out[..written]).is_err() {
             return Turn {
                 reader,
                 state: State::Unwritten,
@@ -139,15 +173,14 @@ fn give(r: Reader, bank: &mut [u8], part: &[u8], out: &mut [u8], to: i32) -> Tur
         }
         i += m.read;
     }
-    let state = state_of(reader);
+    let state = state_of(reader.stage);
     Turn { reader, state }
 }
 
 // After a refusal no more is read.
-fn state_of(r: Reader) -> State
-    ensures { result ≡ state_after r.stage }
+fn state_of(stage: Stage) -> State
+    ensures { result ≡ state_after stage }
 {
-    let stage = r.stage;
     match stage {
         Stage::InHeader => State::Going,
         Stage::InSamples => State::Going,
@@ -156,11 +189,11 @@ fn state_of(r: Reader) -> State
 }
 
 // The last line.
-fn finish(r: Reader, out: &mut [u8], to: i32) -> Ending
+fn finish<W: Write>(r: Reader, out: &mut [u8], to: &mut W) -> Ending
     ensures { is_no_room result ≡ false }
 {
     let n = phs::finish(r, out);
-    if io::write_all(to, &out[..n]) {
+    if to.write_all(&out[..n]).is_ok() {
         Ending::Listed
     } else {
         Ending::Unwritten

@@ -2,20 +2,22 @@
 #![tactic(auto)]
 
 ghost use Rattle.std.specs.Prelude.{◌+◌, ◌≤◌, ◌<◌, length};
+ghost use Rattle.std.specs.Io.{ReadsAtMost};
 
-use libc::{STDERR_FILENO, STDIN_FILENO, STDOUT_FILENO};
 use reads::Brought;
 use salvage::{Ending, Fate, MendedSlot};
+use std::io;
+use std::io::{ErrorKind, Read};
 use text::Word;
 
 // How many bytes an image has.
 const IMAGE: usize = 4096;
 
-// How many bytes of the input are held, and whether a read has failed.
+// How many bytes of the input are held, and the error of a read that failed.
 #[derive(Drop)]
 struct Input {
     held: usize,
-    failed: bool,
+    error: Option<io::Error>,
 }
 
 // The number, or the most that there is room for.
@@ -26,19 +28,49 @@ fn up_to(n: usize, most: usize) -> usize
     if n < most { n } else { most }
 }
 
+// One read of standard input. One that a signal interrupts is made again.
+fn read(rt: &HostRuntime, room: &mut [u8]) -> io::Result<usize>
+    ensures { ReadsAtMost result room.new }
+{
+    let mut from = rt.stdin();
+    for _ in 0..u64::MAX {
+        let got = from.read(room);
+        match got {
+            Ok(_) => return got,
+            Err(e) => {
+                if e.kind() != ErrorKind::Interrupted {
+                    return got;
+                }
+            }
+        }
+    }
+    Err(io::Error::from(ErrorKind::Interrupted))
+}
+
+// The count of a read: -1 where it failed.
+fn count_of(got: io::Result<usize>, room: &[u8]) -> isize
+    requires { ReadsAtMost got room.now }
+{
+    match got {
+        Ok(n) => n as isize,
+        Err(_) => -1,
+    }
+}
+
 // Reads the input to its end, or until more of it is held than an image has.
-fn read_input(room: &mut [u8]) -> Input
+fn read_input(rt: &HostRuntime, room: &mut [u8]) -> Input
     requires { 4096 < length room.old }
     ensures { result.held ≤ length room.new }
 {
     let mut held = 0;
     while held <= IMAGE {
-        let got = libc::read(STDIN_FILENO, &mut room[held..]);
-        let brought = reads::meaning(got);
+        let part = &mut room[held..];
+        let got = read(rt, part);
+        let brought = reads::meaning(count_of(got, part));
         match brought {
             Brought::Failed => {
-                let failed = true;
-                return Input { held, failed };
+                let error = got.err();
+                return Input { held, error };
             }
             Brought::End => {
                 break;
@@ -48,8 +80,8 @@ fn read_input(room: &mut [u8]) -> Input
             }
         }
     }
-    let failed = false;
-    Input { held, failed }
+    let error = None;
+    Input { held, error }
 }
 
 // Puts a line of a form, with a number for each `%`, from `at` on, and answers where the text ends.
@@ -77,16 +109,21 @@ fn put_slot(k: usize, slot: MendedSlot, out: &mut [u8], at: usize) -> usize
     }
 }
 
-// Says the text that ends there.
-fn say(out: &[u8], end: usize)
+// Says on standard error the text that ends there. What can't be said is left unsaid.
+fn say(rt: &HostRuntime, out: &[u8], end: usize)
     requires { end ≤ length out.now }
 {
-    io::write_all(STDERR_FILENO, &out[0..end]);
+    let _ = rt.stderr().write_all(&out[0..end]);
+}
+
+// Says on standard error what failed, and the system's reason.
+fn fail(rt: &HostRuntime, what: &str, reason: io::Error) {
+    let _ = eprintln!(rt; "{what}: {reason}");
 }
 
 // Says what becomes of each slot. There is room for a line of 255 bytes for each.
-fn say_slots(slots: [MendedSlot; 16]) {
-    let mut out = io::buffer();
+fn say_slots(rt: &HostRuntime, slots: [MendedSlot; 16]) {
+    let mut out = [0u8; 4096];
     let mut end = 0;
     let mut k: usize = 0;
     while k < 16 {
@@ -94,41 +131,37 @@ fn say_slots(slots: [MendedSlot; 16]) {
         end = put_slot(k, slot, &mut out, end);
         k += 1;
     }
-    say(&out, end);
+    say(rt, &out, end);
 }
 
 // Says that the image is refused.
-fn say_refused(number: u8) {
-    let mut out = io::buffer();
+fn say_refused(rt: &HostRuntime, number: u8) {
+    let mut out = [0u8; 4096];
     let end = put(b"refused %\n", number as u64, 0, &mut out, 0);
-    say(&out, end);
+    say(rt, &out, end);
 }
 
 // Mends the image and writes it; where all of it is written, says what becomes of its slots.
-fn mend(image: &mut [u8]) {
+fn mend(rt: &HostRuntime, image: &mut [u8]) {
     let salvaged = salvage::mend(image);
     let ending = salvaged.ending;
     let slots = salvaged.slots;
     match ending {
-        Ending::Refused(number) => say_refused(number),
-        Ending::Mended => {
-            if io::write_all(STDOUT_FILENO, image) {
-                say_slots(slots);
-            } else {
-                os::fail(b"mend: standard output");
-            }
-        }
+        Ending::Refused(number) => say_refused(rt, number),
+        Ending::Mended => match rt.stdout().write_all(image) {
+            Ok(()) => say_slots(rt, slots),
+            Err(e) => fail(rt, "mend: standard output", e),
+        },
     }
 }
 
 // The program. There is more room than an image takes, so that a longer input is seen to be longer.
-fn main() {
-    let mut room = io::large_buffer();
-    let input = read_input(&mut room);
+fn main(rt: HostRuntime) {
+    let mut room = [0u8; 65536];
+    let input = read_input(&rt, &mut room);
     let held = input.held;
-    if input.failed {
-        os::fail(b"mend: standard input");
-    } else {
-        mend(&mut room[0..held]);
+    match input.error {
+        Some(e) => fail(&rt, "mend: standard input", e),
+        None => mend(&rt, &mut room[0..held]),
     }
 }

@@ -6,10 +6,12 @@ mod lines;
 mod script;
 
 ghost use Rattle.std.specs.Prelude.{◌≡◌, ◌+◌, ◌-◌, ◌≤◌, length};
+ghost use Rattle.std.specs.Io.{ReadsAtMost};
 
-use libc::{STDERR_FILENO, STDIN_FILENO, STDOUT_FILENO};
 use reads::Brought;
 use script::{byte_at, length_of};
+use std::io;
+use std::io::{ErrorKind, Read};
 
 // Room for the line of any answer, the 1024 of the contracts.
 const LINE: usize = 1024;
@@ -45,13 +47,49 @@ struct Turn {
     next: Next,
 }
 
+// Says on standard error what failed, and the system's reason. What can't be said is left unsaid.
+fn fail(rt: &HostRuntime, what: &str, reason: io::Error) {
+    let _ = eprintln!(rt; "{what}: {reason}");
+}
+
 // Writes text, or says why it can't.
-fn write(text: &[u8]) -> bool {
-    let is_written = io::write_all(STDOUT_FILENO, text);
-    if !is_written {
-        os::fail(b"replay: standard output");
+fn write(rt: &HostRuntime, text: &[u8]) -> bool {
+    match rt.stdout().write_all(text) {
+        Ok(()) => true,
+        Err(e) => {
+            fail(rt, "replay: standard output", e);
+            false
+        }
     }
-    is_written
+}
+
+// One read of standard input. One that a signal interrupts is made again.
+fn read(rt: &HostRuntime, room: &mut [u8]) -> io::Result<usize>
+    ensures { ReadsAtMost result room.new }
+{
+    let mut from = rt.stdin();
+    for _ in 0..u64::MAX {
+        let got = from.read(room);
+        match got {
+            Ok(_) => return got,
+            Err(e) => {
+                if e.kind() != ErrorKind::Interrupted {
+                    return got;
+                }
+            }
+        }
+    }
+    Err(io::Error::from(ErrorKind::Interrupted))
+}
+
+// The count of a read: -1 where it failed.
+fn count_of(got: io::Result<usize>, room: &[u8]) -> isize
+    requires { ReadsAtMost got room.now }
+{
+    match got {
+        Ok(n) => n as isize,
+        Err(_) => -1,
+    }
 }
 
 // Makes the call of the record that a script begins with, and puts its line from `at` on.
@@ -78,7 +116,7 @@ fn run(script: &[u8], memory: &mut [u8], out: &mut [u8], at: usize) -> usize
 }
 
 // Runs the whole records that a part of the script begins with.
-fn run_all(part: &[u8], memory: &mut [u8], out: &mut [u8], text: usize) -> Ran
+fn run_all(rt: &HostRuntime, part: &[u8], memory: &mut [u8], out: &mut [u8], text: usize) -> Ran
     requires { (1024 ≤ length out.old) × (text ≤ length out.old) }
     ensures { (result.at ≤ length part.now) × (result.text ≤ length out.new) }
 {
@@ -95,7 +133,7 @@ fn run_all(part: &[u8], memory: &mut [u8], out: &mut [u8], text: usize) -> Ran
             break;
         }
         if out.len() - text < LINE {
-            if !write(&out[0..text]) {
+            if !write(rt, &out[0..text]) {
                 let next = Next::Stop;
                 return Ran { at, text, next };
             }
@@ -127,16 +165,31 @@ fn ending(held: usize) -> Next {
     if held == 0 { Next::End } else { Next::Bad }
 }
 
+// Says why a read failed.
+fn say_unread(rt: &HostRuntime, got: io::Result<usize>) {
+    if let Err(e) = got {
+        fail(rt, "replay: standard input", e);
+    }
+}
+
 // Reads on after the bytes that are held, runs the whole records and holds the rest.
-fn read_on(memory: &mut [u8], input: &mut [u8], held: usize, out: &mut [u8], text: usize) -> Turn
+fn read_on(
+    rt: &HostRuntime,
+    memory: &mut [u8],
+    input: &mut [u8],
+    held: usize,
+    out: &mut [u8],
+    text: usize,
+) -> Turn
     requires { (held ≤ length input.old) × (1024 ≤ length out.old) × (text ≤ length out.old) }
     ensures { (result.held ≤ length input.new) × (result.text ≤ length out.new) }
 {
-    let got = libc::read(STDIN_FILENO, &mut input[held..]);
-    let brought = reads::meaning(got);
+    let room = &mut input[held..];
+    let got = read(rt, room);
+    let brought = reads::meaning(count_of(got, room));
     match brought {
         Brought::Failed => {
-            os::fail(b"replay: standard input");
+            say_unread(rt, got);
             let next = Next::Failed;
             Turn { held, text, next }
         }
@@ -144,7 +197,7 @@ fn read_on(memory: &mut [u8], input: &mut [u8], held: usize, out: &mut [u8], tex
             let next = ending(held);
             Turn { held, text, next }
         }
-        Brought::Bytes(n) => run_held(memory, input, held, n, out, text),
+        Brought::Bytes(n) => run_held(rt, memory, input, held, n, out, text),
     }
 }
 
@@ -157,6 +210,7 @@ pub(crate) fn up_to(n: usize, most: usize) -> usize
 
 // Runs the whole records of the bytes that are held and of the n that the read brought after them, and holds the rest.
 fn run_held(
+    rt: &HostRuntime,
     memory: &mut [u8],
     input: &mut [u8],
     held: usize,
@@ -168,7 +222,7 @@ fn run_held(
     ensures { (result.held ≤ length input.new) × (result.text ≤ length out.new) }
 {
     let end = held + up_to(n, input.len() - held);
-    let ran = run_all(&input[0..end], memory, out, text);
+    let ran = run_all(rt, &input[0..end], memory, out, text);
     let at = ran.at;
     let text = ran.text;
     let next = ran.next;
@@ -177,50 +231,48 @@ fn run_held(
 }
 
 // Writes the text that is left, and says where the script ends in a bad record.
-fn finish(text: &[u8], next: Next) {
+fn finish(rt: &HostRuntime, text: &[u8], next: Next) {
     match next {
         Next::Stop => {}
         Next::Bad => {
-            if write(text) {
-                write(b"bad record\n");
+            if write(rt, text) {
+                write(rt, b"bad record\n");
             }
         }
         _ => {
-            write(text);
+            write(rt, text);
         }
     }
 }
 
 // A loop has to end, and nothing says that a script does: this follows more reads than a run can make.
-fn give_up() {
-    io::write_all(STDERR_FILENO, b"replay: standard input: too many reads\n");
+fn give_up(rt: &HostRuntime) {
+    let _ = eprintln!(rt; "replay: standard input: too many reads");
 }
 
 // Runs the script to its end.
-fn replay(memory: &mut [u8], input: &mut [u8], out: &mut [u8])
+fn replay(rt: &HostRuntime, memory: &mut [u8], input: &mut [u8], out: &mut [u8])
     requires { 1024 ≤ length out.old }
 {
     let mut held = 0;
     let mut text = 0;
-    let mut turns = u64::MAX;
-    while turns > 0 {
-        turns -= 1;
-        let t = read_on(memory, input, held, out, text);
+    for _ in 0..u64::MAX {
+        let t = read_on(rt, memory, input, held, out, text);
         held = t.held;
         text = t.text;
         let next = t.next;
         let Next::More = next else {
-            finish(&out[0..text], next);
+            finish(rt, &out[0..text], next);
             return;
         };
     }
-    give_up();
+    give_up(rt);
 }
 
 // The program: memory of 8192 zeros, and the script.
-fn main() {
+fn main(rt: HostRuntime) {
     let mut memory = [0u8; 8192];
-    let mut input = io::large_buffer();
-    let mut out = io::large_buffer();
-    replay(&mut memory, &mut input, &mut out);
+    let mut input = [0u8; 65536];
+    let mut out = [0u8; 65536];
+    replay(&rt, &mut memory, &mut input, &mut out);
 }
