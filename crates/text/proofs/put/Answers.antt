@@ -1,0 +1,21 @@
+-- `text::put` meets its contract, by the test for room. Assumes nothing.
+use borrow.Author.Rules.{rules}
+use mathlib.Core.Path.{sym, ◌∙◌}
+use Prim.Native.Nat.{◌+◌, ◌≤◌}
+use native.Mathlib.Omega.{arith}
+use lib.ListN.{length}
+use borrow.Author.Tests.{leb-true}
+use Rattle.text.proofs.Writing.{put_done, put_left}
+use Rattle.text.proofs.put.Goals as goal
+
+pub fill-requires : goal.fill-requires
+fill-requires c =
+    let a = c.args in
+    let room : a.at + (length a.form.now + 231) ≤ length a.out.now = leb-true _ _ (sym c.has_room.ensures ∙ c.if-has_room.true) in
+    omega (arith, room)
+
+pub returns-then-has_room : goal.returns-then-has_room
+returns-then-has_room c = put_done (sym c.has_room.ensures ∙ c.if-has_room.true) c.fill.ensures
+
+pub returns-else-has_room : goal.returns-else-has_room
+returns-else-has_room c = put_left (sym c.has_room.ensures ∙ c.if-has_room.false)
