@@ -2,22 +2,12 @@
 use Rattle.std.proofs.Common.{◌^◌, ℤ, ap, ◌∙◌, lt_of_le_of_lt, to_z-of_z, w64, to_z, of_z, rules}
 use lib.Signed.{shr_z, mag_shr}
 use Rattle.ints.proofs.Floor.{shift_is_floor}
-use Rattle.model.proofs.angle.floor_shift.Statement.{statement}
-use Rattle.model.proofs.angle.floor_shift.Tie as tie
+use Rattle.model.proofs.angle.floor_shift.Goals as goal
 
-returns : tie.Need-returns
+pub returns : goal.returns
 returns c =
     let z = c.args.z in
     let m = 2 ^ c.args.i in
     ap (λ (y : ℤ). to_z w64 (of_z w64 (shr_z y m))) (to_z-of_z c.ranges.z)
     ∙ to_z-of_z {w = w64} {z = shr_z z m} (record { sfits = lt_of_le_of_lt (mag_shr z m) c.ranges.z.sfits })
     ∙ shift_is_floor z m
-
-cast-result : tie.Need-overflow-cast-result
-cast-result c = search rules
-
-shr-result : tie.Need-overflow-shr-result
-shr-result c = search rules
-
-pub floor-shift-spec : {M : Type 1} → statement M
-floor-shift-spec = tie.close (tie.spec cast-result shr-result returns)

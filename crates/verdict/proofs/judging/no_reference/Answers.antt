@@ -5,15 +5,11 @@ use mathlib.Core.Bool.{◌&&◌}
 use mir.Syntax.{w16}
 use mir.Val.{SFits}
 use Rattle.verdict.proofs.Signs.{zero_bits}
-use Rattle.verdict.proofs.judging.no_reference.Statement.{statement}
-use Rattle.verdict.proofs.judging.no_reference.Tie as tie
+use Rattle.verdict.proofs.judging.no_reference.Goals as goal
 
-returns : tie.Need-returns
+pub returns : goal.returns
 returns c =
-    let q = c.before.before.before.before.args.reference in
+    let q = c.args.reference in
     let re : SFits w16 q.re = search rules in
     let im : SFits w16 q.im = search rules in
     ap₂ ◌&&◌ (zero_bits q.re re) (zero_bits q.im im)
-
-pub no-reference-spec : {M : Type 1} → statement M
-no-reference-spec = tie.close (tie.spec returns)

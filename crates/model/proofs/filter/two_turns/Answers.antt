@@ -2,8 +2,8 @@
 use Rattle.std.proofs.Common.{◌≡◌, ℕ, ◌+◌, ◌-◌, ◌%◌, ◌<◌, ◌≤◌, List, length, get_or, set, ℤ, pos, refl, ap, ◌∙◌, ne_of_lt, arith, lit≤, length-set, get_or-set_other, get_or-set_same, to_z-of_z, w32, below_none, below_more}
 use native.Mathlib.Decide.{dec_lt}
 use borrow.Author.Rules.{sfits_of}
-use Rattle.model.proofs.filter.two_turns.Statement.{statement}
-use Rattle.model.proofs.filter.two_turns.Tie as tie
+use Rattle.model.proofs.filter.two_turns.Invariants.{Both}
+use Rattle.model.proofs.filter.two_turns.Goals as goal
 
 -- a number put in both turns
 module _ (turns : List ℤ) (n : ℕ) (x : ℤ) where
@@ -20,49 +20,40 @@ module _ (turns : List ℤ) (n : ℕ) (x : ℤ) where
     second : get_or put (n + 15) (pos 0) ≡ x
     second = get_or-set_same (set turns n x) (n + 15) x (pos 0) (omega (arith, size, length-set turns n x))
 
-abbrev Both : List ℤ → List ℤ → ℕ → Type 0
-Both table turns k = (get_or turns k (pos 0) ≡ get_or table k (pos 0)) × (get_or turns (k + 15) (pos 0) ≡ get_or table k (pos 0))
+pub loop-n-init : goal.loop-n-init
+loop-n-init c = (lit≤ tt, refl, below_none _)
 
-abbrev invariant-loop : tie.invariant-loop
-invariant-loop table turns₀ n₀ turns n = (n ≤ 15) × (length turns ≡ 30) × ((k : ℕ) → k < n → Both table turns k)
+pub offset_bounds-table-n : goal.offset_bounds-table-n
+offset_bounds-table-n c = omega arith
 
-abbrev decreases-loop : tie.decreases-loop
-decreases-loop table turns₀ n₀ turns n = 15 - n
+pub bounds-table-n : goal.bounds-table-n
+bounds-table-n c = omega arith
 
-loop-holds : tie.Need-loop-init invariant-loop decreases-loop
-loop-holds c = (lit≤ tt, refl, below_none _)
+pub offset_bounds-turns-n : goal.offset_bounds-turns-n
+offset_bounds-turns-n c = omega arith
 
-mul-e : tie.Need-overflow-mul-e invariant-loop decreases-loop
-mul-e c = omega arith
+pub bounds-turns-n : goal.bounds-turns-n
+bounds-turns-n c = omega arith
 
-array-copy-out-e : tie.Need-array-copy-out-e invariant-loop decreases-loop
-array-copy-out-e c = omega arith
+pub overflow_add-turns : goal.overflow_add-turns
+overflow_add-turns c = omega arith
 
-mul-turns : tie.Need-overflow-mul-turns invariant-loop decreases-loop
-mul-turns c = omega arith
+pub offset_bounds-turns-n-in-loop-n : goal.offset_bounds-turns-n-in-loop-n
+offset_bounds-turns-n-in-loop-n c = omega arith
 
-array-set-from-turns : tie.Need-array-set-from-turns invariant-loop decreases-loop
-array-set-from-turns c = omega arith
+pub bounds-turns-n-in-loop-n : goal.bounds-turns-n-in-loop-n
+bounds-turns-n-in-loop-n c = omega arith
 
-add-turns : tie.Need-overflow-add-turns invariant-loop decreases-loop
-add-turns c = omega arith
+pub overflow_add-n : goal.overflow_add-n
+overflow_add-n c = omega arith
 
-mul-turns-2 : tie.Need-overflow-mul-turns-2 invariant-loop decreases-loop
-mul-turns-2 c = omega arith
+pub loop-n-smaller : goal.loop-n-smaller
+loop-n-smaller c = omega arith
 
-array-set-from-turns-2 : tie.Need-array-set-from-turns-2 invariant-loop decreases-loop
-array-set-from-turns-2 c = omega arith
-
-add-n : tie.Need-overflow-add-n invariant-loop decreases-loop
-add-n c = omega arith
-
-loop-less : tie.Need-loop-smaller invariant-loop decreases-loop
-loop-less c = omega arith
-
-loop-again : tie.Need-loop-preserved invariant-loop decreases-loop
-loop-again c =
-    let l = c.before.before.loop in
-    let table = c.before.before.before.args.t1 in
+pub loop-n-preserved : goal.loop-n-preserved
+loop-n-preserved c =
+    let l = c.loop-n in
+    let table = c.args.table in
     let is = to_z-of_z {w = w32} {z = get_or table l.n (pos 0)} (sfits_of c.e.given) in
     let size = l.invariant.1 in
     let inside : l.n < 15 = omega arith in (
@@ -76,10 +67,10 @@ loop-again c =
           (first l.turns l.n _ size inside ∙ is, second l.turns l.n _ size inside ∙ is),
     )
 
-returns : tie.Need-returns invariant-loop decreases-loop
+pub returns : goal.returns
 returns c n h =
-    let l = c.before.loop in
-    let table = c.before.before.args.t1 in
+    let l = c.loop-n in
+    let table = c.args.table in
     let both : (k : ℕ) → k < 15 → Both table l.turns k = λ k i. l.invariant.2 k (omega arith) in
     elim (dec_lt n 15) [
       | yes i ↦ (both n i).0 ∙ ap (λ (k : ℕ). get_or table k (pos 0)) (let e : n ≡ n % 15 = omega arith in e)
@@ -88,22 +79,3 @@ returns c n h =
           let f : n - 15 ≡ n % 15 = omega arith in
           ap (λ (k : ℕ). get_or l.turns k (pos 0)) e ∙ (both (n - 15) (omega arith)).1 ∙ ap (λ (k : ℕ). get_or table k (pos 0)) f
     ]
-
-pub two-turns-spec : {M : Type 1} → statement M
-two-turns-spec =
-    tie.close
-    (tie.spec
-    invariant-loop
-    decreases-loop
-    loop-holds
-    mul-e
-    array-copy-out-e
-    mul-turns
-    array-set-from-turns
-    add-turns
-    mul-turns-2
-    array-set-from-turns-2
-    add-n
-    loop-less
-    loop-again
-    returns)

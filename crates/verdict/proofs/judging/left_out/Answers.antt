@@ -2,11 +2,7 @@
 use mathlib.Core.Path.{ap}
 use mir.Facts.{to_z-of_z}
 use Rattle.verdict.specs.Judging.{is_left_out}
-use Rattle.verdict.proofs.judging.left_out.Statement.{statement}
-use Rattle.verdict.proofs.judging.left_out.Tie as tie
+use Rattle.verdict.proofs.judging.left_out.Goals as goal
 
-returns : tie.Need-returns
+pub returns : goal.returns
 returns c = ap (is_left_out c.args.test) (to_z-of_z c.ranges.m)
-
-pub left-out-spec : {M : Type 1} → statement M
-left-out-spec = tie.close (tie.spec returns)
