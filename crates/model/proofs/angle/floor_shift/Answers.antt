@@ -1,5 +1,5 @@
 -- `floor_shift` is the floor, which is what `>>` gives of the number that is read; it is no larger. Assumes nothing.
-use Rattle.std.proofs.Common.{◌^◌, ℤ, ap, ◌∙◌, lt_of_le_of_lt, to_z-of_z, w64, to_z, of_z, rules}
+use Rattle.std.proofs.Common.{◌^◌, ℤ, ap, ◌∙◌, lt_of_le_of_lt, to_z-of_z, w64, to_z, of_z}
 use lib.Signed.{shr_z, mag_shr}
 use Rattle.ints.proofs.Floor.{shift_is_floor}
 use Rattle.model.proofs.angle.floor_shift.Goals as goal

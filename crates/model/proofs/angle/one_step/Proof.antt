@@ -34,10 +34,10 @@ module _ (c : tie.After-floor_shift-im_part) where
   i = start.args.i
 
   abbrev re : Exp w64
-  re = whole v.re (2 ^ 60) start.pre.1.re_size
+  re = whole v.re (2 ^ 60) start.requires.1.re_size
 
   abbrev im : Exp w64
-  im = whole v.im (2 ^ 60) start.pre.1.im_size
+  im = whole v.im (2 ^ 60) start.requires.1.im_size
 
   re_floor : c.before.floor_shift-re_part.result ≡ floor_div v.re (2 ^ i)
   re_floor = c.before.floor_shift-re_part.ensures ∙ ap (λ (z : ℤ). floor_div z (2 ^ i)) (at re tt)

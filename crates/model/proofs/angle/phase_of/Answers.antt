@@ -1,5 +1,5 @@
 -- `phase_of` is the phase, by whether there is one. Assumes nothing.
-use Rattle.std.proofs.Common.{false, sym, ◌∙◌, rules}
+use Rattle.std.proofs.Common.{false, sym, ◌∙◌}
 use Rattle.model.proofs.NoPhase.{phase_none, phase_some}
 use Rattle.model.proofs.angle.phase_of.Goals as goal
 

@@ -1,6 +1,6 @@
 -- `phase_sum` is the sum of three products: the entries add to 0, so those of a less c and b less c are enough. It has the size of the three. Assumes
 -- nothing.
-use Rattle.std.proofs.Common.{◌≡◌, ◌+◌, ◌≤◌, get_or, ℤ, pos, ◌+ℤ◌, ◌-ℤ◌, ◌*ℤ◌, nat_abs, sym, ap, ◌∙◌, subst, lit<, to_z-of_z, w16, w32, SFits, to_z, of_z, rules}
+use Rattle.std.proofs.Common.{◌≡◌, ◌≤◌, get_or, ℤ, pos, ◌+ℤ◌, ◌-ℤ◌, ◌*ℤ◌, nat_abs, sym, ap, ◌∙◌, subst, lit<, to_z-of_z, w16, w32, SFits, to_z, of_z, rules}
 use Rattle.ints.proofs.Size.{size_fits}
 use Rattle.ints.proofs.Signed.{Exp, whole, at}
 use Rattle.model.specs.Filter.{entry_at, phase_sum}
@@ -49,11 +49,11 @@ module _ (c : tie.After-times_entry-b) where
       let ac = difference s.a s.c a-minus.result words.a_fits words.c_fits a-minus.ensures.0 a-minus.ensures.1 in
       let bc = difference s.b s.c b-minus.result words.b_fits words.c_fits b-minus.ensures.0 b-minus.ensures.1 in
       let a-is = c.before.before.before.before.times_entry-a.ensures.0 ∙ ap (λ (z : ℤ). z *ℤ entry_at table n) ac in
-      let b-is = c.times_entry-b.ensures.0 ∙ λ i. bc i *ℤ get_or table (start.pre.0.2 i) (pos 0) in
-      (λ i. a-is i +ℤ b-is i) ∙ sym (level_sum table start.pre.1 s n)
+      let b-is = c.times_entry-b.ensures.0 ∙ λ i. bc i *ℤ get_or table (start.requires.0.2 i) (pos 0) in
+      (λ i. a-is i +ℤ b-is i) ∙ sym (level_sum table start.requires.1 s n)
 
   small : nat_abs (phase_sum start.args.table.now start.args.s start.args.n) ≤ 1610612736
-  small = three_small start.args.table.now start.pre.1 start.args.s start.args.n (word_counts start.args.s words)
+  small = three_small start.args.table.now start.requires.1 start.args.s start.args.n (word_counts start.args.s words)
 
   -- the sum, as the machine adds it
   abbrev added : ℤ

@@ -15,7 +15,7 @@ abbrev g : tie.After-weight_of-g → Exp w64
 g c = count c.weight_of-g.result 15 (omega (arith, c.weight_of-g.ensures, weight_within c.before.args.j))
 
 abbrev x : tie.After-phase_sum-x → Exp w64
-x c = cast w32 c.phase_sum-x.result (sfits_of c.phase_sum-x.type-inv)
+x c = cast w32 c.phase_sum-x.result (sfits_of c.phase_sum-x.type_inv)
 
 abbrev product : tie.After-phase_sum-x → Exp w64
 product c = g c.before ⊗ x c

@@ -1,5 +1,5 @@
 -- `two_turns` has each entry in both turns. The loop's invariant: the first n entries stand in both. Assumes nothing.
-use Rattle.std.proofs.Common.{◌≡◌, ℕ, ◌+◌, ◌-◌, ◌%◌, ◌<◌, ◌≤◌, List, length, get_or, set, ℤ, pos, refl, ap, ◌∙◌, ne_of_lt, arith, lit≤, length-set, get_or-set_other, get_or-set_same, to_z-of_z, w32, below_none, below_more}
+use Rattle.std.proofs.Common.{◌≡◌, ℕ, ◌+◌, ◌-◌, ◌%◌, ◌<◌, List, length, get_or, set, ℤ, pos, refl, ap, ◌∙◌, ne_of_lt, arith, lit≤, length-set, get_or-set_other, get_or-set_same, to_z-of_z, w32, below_none, below_more}
 use native.Mathlib.Decide.{dec_lt}
 use borrow.Author.Rules.{sfits_of}
 use Rattle.model.proofs.filter.two_turns.Invariants.{Both}
@@ -23,38 +23,11 @@ module _ (turns : List ℤ) (n : ℕ) (x : ℤ) where
 pub loop-n-init : goal.loop-n-init
 loop-n-init c = (lit≤ tt, refl, below_none _)
 
-pub offset_bounds-table-n : goal.offset_bounds-table-n
-offset_bounds-table-n c = omega arith
-
-pub bounds-table-n : goal.bounds-table-n
-bounds-table-n c = omega arith
-
-pub offset_bounds-turns-n : goal.offset_bounds-turns-n
-offset_bounds-turns-n c = omega arith
-
-pub bounds-turns-n : goal.bounds-turns-n
-bounds-turns-n c = omega arith
-
-pub overflow_add-turns : goal.overflow_add-turns
-overflow_add-turns c = omega arith
-
-pub offset_bounds-turns-n-in-loop-n : goal.offset_bounds-turns-n-in-loop-n
-offset_bounds-turns-n-in-loop-n c = omega arith
-
-pub bounds-turns-n-in-loop-n : goal.bounds-turns-n-in-loop-n
-bounds-turns-n-in-loop-n c = omega arith
-
-pub overflow_add-n : goal.overflow_add-n
-overflow_add-n c = omega arith
-
-pub loop-n-smaller : goal.loop-n-smaller
-loop-n-smaller c = omega arith
-
 pub loop-n-preserved : goal.loop-n-preserved
 loop-n-preserved c =
     let l = c.loop-n in
     let table = c.args.table in
-    let is = to_z-of_z {w = w32} {z = get_or table l.n (pos 0)} (sfits_of c.e.given) in
+    let is = to_z-of_z {w = w32} {z = get_or table l.n (pos 0)} (sfits_of c.e-1.given) in
     let size = l.invariant.1 in
     let inside : l.n < 15 = omega arith in (
       omega arith,

@@ -1,7 +1,5 @@
 -- `two_turns` has each entry in both turns. The loop's invariant: the first n entries stand in both. Assumes nothing.
-use Rattle.std.proofs.Common.{◌≡◌, ℕ, ◌+◌, ◌-◌, ◌%◌, ◌<◌, ◌≤◌, List, length, get_or, set, ℤ, pos, refl, ap, ◌∙◌, ne_of_lt, arith, lit≤, length-set, get_or-set_other, get_or-set_same, to_z-of_z, w32, below_none, below_more}
-use native.Mathlib.Decide.{dec_lt}
-use borrow.Author.Rules.{sfits_of}
+use Rattle.std.proofs.Common.{◌≡◌, ℕ, ◌+◌, ◌-◌, ◌<◌, ◌≤◌, List, length, get_or, ℤ, pos}
 use Rattle.model.proofs.filter.two_turns.Given as goal
 
 abbrev pub Both : List ℤ → List ℤ → ℕ → Type 0

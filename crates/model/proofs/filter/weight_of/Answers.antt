@@ -1,5 +1,5 @@
 -- `weight_of` is 15 - |k|: up to the centre one more than the place, after it one less at each. Assumes nothing.
-use Rattle.std.proofs.Common.{sym, rules}
+use Rattle.std.proofs.Common.{sym}
 use Rattle.model.proofs.Weights.{weight_before, weight_after}
 use Rattle.model.proofs.filter.weight_of.Goals as goal
 

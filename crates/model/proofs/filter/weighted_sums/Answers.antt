@@ -7,28 +7,33 @@ use Rattle.model.proofs.filter.weighted_sums.Goals as goal
 pub with_terms-rising-requires : goal.with_terms-rising-requires
 with_terms-rising-requires c =
     let a = c.args in
-    let w = lent_samples 31 a.window.now in (
-      (c.requires.0.0, c.requires.0.1, refl, lit≤ tt, lit≤ tt),
-      (c.requires.1, (first_none a.cosines.now w a.n a.from, first_none a.sines.now w a.n a.from)),
-    )
+    let w = lent_samples 31 a.window.now in
+    record {
+      run = (c.requires.placed.0, c.requires.placed.1, refl, lit≤ tt, lit≤ tt);
+      tabled = c.requires.tabled;
+      cosine_first = first_none a.cosines.now w a.n a.from;
+      sine_first = first_none a.sines.now w a.n a.from;
+    }
 
 pub with_terms-requires : goal.with_terms-requires
-with_terms-requires c =
-    let s = c in
-    ((s.requires.0.0, s.requires.0.1, refl, lit≤ tt, lit≤ tt), (s.requires.1, (c.with_terms-rising.ensures.0, c.with_terms-rising.ensures.1)))
+with_terms-requires c = record {
+  run = (c.requires.placed.0, c.requires.placed.1, refl, lit≤ tt, lit≤ tt);
+  tabled = c.requires.tabled;
+  cosine_first = c.with_terms-rising.ensures.cosine;
+  sine_first = c.with_terms-rising.ensures.sine;
+}
 
 pub returns : goal.returns
 returns c =
     let a = c.args in
     let w = lent_samples 31 a.window.now in
-    let cosine = c.with_terms.ensures.0 in
-    let sine = c.with_terms.ensures.1 in (
-      all_is a.cosines.now w a.n a.from _ cosine,
-      (
-        all_is a.sines.now w a.n a.from _ sine,
-        record {
-          re_size = all_small a.cosines.now w a.n a.from _ cosine;
-          im_size = all_small a.sines.now w a.n a.from _ sine;
-        },
-      ),
-    )
+    let cosine = c.with_terms.ensures.cosine in
+    let sine = c.with_terms.ensures.sine in
+    record {
+      cosine = all_is a.cosines.now w a.n a.from _ cosine;
+      sine = all_is a.sines.now w a.n a.from _ sine;
+      small = record {
+        re_size = all_small a.cosines.now w a.n a.from _ cosine;
+        im_size = all_small a.sines.now w a.n a.from _ sine;
+      };
+    }

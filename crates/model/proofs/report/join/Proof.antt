@@ -16,7 +16,7 @@ module _ (c : tie.Start) where
   im = whole c.args.p.im 362387865600 c.requires.im_size
 
 divisor_within : (c : tie.After-struct_known-1) → c.before.args.scale.divisor ≤ 2 ^ 53
-divisor_within c = omega (arith, c.struct_known.given)
+divisor_within c = omega (arith, c.struct_known-1.given)
 
 divided-requires : tie.Need-divided-re_peak-requires
 divided-requires c κs = (le_trans (sized (re c.before.before) tt) (lit≤ tt), divisor_within c.before)

@@ -1,5 +1,5 @@
 -- `measure` is the figures at the centre: whole turns of the index change nothing. Assumes nothing.
-use Rattle.std.proofs.Common.{◌≡◌, ◌+◌, ◌%◌, ◌∙◌, rules}
+use Rattle.std.proofs.Common.{◌≡◌, ◌+◌, ◌%◌, ◌∙◌}
 use Rattle.model.specs.Filter.{windowed, lent_samples}
 use Rattle.model.specs.Report.{three_phase, figures_at}
 use Rattle.model.proofs.Windows.{figures_turn}

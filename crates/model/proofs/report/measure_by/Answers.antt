@@ -1,5 +1,5 @@
 -- `measure_by` is the figures at the centre: joined from the three positive sequences and their phases. Assumes nothing.
-use Rattle.std.proofs.Common.{◌≡◌, ◌+◌, ◌-◌, ap, ◌∙◌, arith, rules}
+use Rattle.std.proofs.Common.{◌≡◌, ◌+◌, ◌-◌, ap, ◌∙◌, arith}
 use Rattle.model.specs.Angle.{phase_of}
 use Rattle.model.specs.Filter.{positive, windowed, lent_samples}
 use Rattle.model.specs.Report.{joined, differences, phase_at, figures_at}
@@ -16,9 +16,9 @@ returns c =
     let e : n + 0 + 14 ≡ n + 15 - 1 = omega arith in
     let f : n + 1 + 14 ≡ n + 15 = omega arith in
     let g : n + 2 + 14 ≡ n + 15 + 1 = omega arith in
-    let before = t.positive_sequence-before.ensures.0 ∙ ap (positive x) e in
-    let centre = t.positive_sequence-centre.ensures.0 ∙ ap (positive x) f in
-    let after = t.positive_sequence-after.ensures.0 ∙ ap (positive x) g in
+    let before = t.positive_sequence-before.ensures.is ∙ ap (positive x) e in
+    let centre = t.positive_sequence-centre.ensures.is ∙ ap (positive x) f in
+    let after = t.positive_sequence-after.ensures.is ∙ ap (positive x) g in
     let p = t.phase_of-p.ensures ∙ ap (phase_of limit) before in
     let q = c.phase_of-q.ensures ∙ ap (phase_of limit) centre in
     let r = c.phase_of-r.ensures ∙ ap (phase_of limit) after in

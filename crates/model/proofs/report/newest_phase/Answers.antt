@@ -1,5 +1,5 @@
 -- `newest_phase` is the phase at the centre of the last 29 samples. Assumes nothing.
-use Rattle.std.proofs.Common.{◌≡◌, ◌+◌, ◌-◌, ap, ◌∙◌, arith, rules}
+use Rattle.std.proofs.Common.{◌≡◌, ◌+◌, ◌-◌, ap, ◌∙◌, arith}
 use Rattle.model.specs.Filter.{windowed, lent_samples}
 use Rattle.model.specs.Report.{three_phase, phase_at}
 use Rattle.model.proofs.report.newest_phase.Goals as goal

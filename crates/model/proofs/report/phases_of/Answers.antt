@@ -1,5 +1,5 @@
 -- `phases_of` is the phases at the centres of the 29 samples from the first, the second and the third on. Assumes nothing.
-use Rattle.std.proofs.Common.{◌≡◌, ◌+◌, ◌-◌, ap, ◌∙◌, arith, rules}
+use Rattle.std.proofs.Common.{◌≡◌, ◌+◌, ◌-◌, ap, ◌∙◌, arith}
 use Rattle.model.specs.Filter.{windowed, lent_samples}
 use Rattle.model.specs.Report.{three_phase, phase_at}
 use Rattle.model.proofs.report.phases_of.Goals as goal
