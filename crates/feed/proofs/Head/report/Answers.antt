@@ -18,50 +18,34 @@ use Rattle.feed.proofs.Sound.{sound}
 use Rattle.feed.proofs.Standing.{spacing_positive, frame_below}
 use Rattle.feed.proofs.Turning.{by_newest}
 use borrow.Author.Rules.{rules}
-use Rattle.feed.proofs.Head.report.Statement.{statement}
-use Rattle.feed.proofs.Head.report.Tie as tie
+use Rattle.feed.proofs.Head.report.Goals as goal
 
-centre-requires : tie.Need-centre-requires
-centre-requires c κs = search rules
+pub nonzero_div-frame : goal.nonzero_div-frame
+nonzero_div-frame c =
+    let start = c in
+    rw c.spacing.ensures (spacing_positive _ _ (sound start.args.self start.requires.sound).rated)
 
-spacing-requires : tie.Need-spacing-requires
-spacing-requires c κs = search rules
-
-div-frame : tie.Need-nonzero-div-frame
-div-frame c =
-    let start = c.before.before.before in
-    rw c.before.spacing.ensures (spacing_positive _ _ (sound start.args.self start.requires.0).rated)
-
-cast-frame : tie.Need-overflow-cast-frame
-cast-frame c =
-    let start = c.before.before.before in
+pub overflow_cast-frame : goal.overflow_cast-frame
+overflow_cast-frame c =
+    let start = c in
     let h = start.args.self in
-    let v = (sound h start.requires.0).rated in
+    let v = (sound h start.requires.sound).rated in
     let i : (centre_at h).index < sampling_of h.nominal = mod-lt (centre_number h) (omega (arith, v.low)) in
-    rw (c.before.before.centre.ensures, c.before.spacing.ensures)
+    rw (c.centre-centre.ensures, c.spacing.ensures)
     (record { fits = omega (arith, frame_below h.nominal h.rate (centre_at h).index v i, v.fast) })
 
-cast-measure-kept : tie.Need-overflow-cast-measure-kept
-cast-measure-kept c = search rules
-
-nominal-of-requires : tie.Need-nominal-of-requires
-nominal-of-requires c κs = search rules
-
-measure-kept-requires : tie.Need-measure-kept-requires
-measure-kept-requires c κs = search rules
-
-returns : tie.Need-returns
+pub returns : goal.returns
 unfolding report_with tagged
 returns c =
-    let start = c.before.before.before.before.before.before.before in
-    let m = c.before.measure-kept in
+    let start = c in
+    let m = c.measure_kept-figures in
     let k = start.args.kept in
     let h = start.args.self in
     let w = lent_samples 31 start.args.window.now in
     let figures : m.result ≡ figures_with three_phase (nominal_of h.nominal) (windowed w (next_number_of h - 30)) (centre_number h) k =
     m.ensures
-    ∙ ap (λ (n : Nominal). figures_with three_phase n (windowed w h.index) (h.index + 15) k) c.before.before.nominal-of.ensures
-    ∙ by_newest (nominal_of h.nominal) w k h (sound h start.requires.0) start.requires.1 in
+    ∙ ap (λ (n : Nominal). figures_with three_phase n (windowed w h.index) (h.index + 15) k) c.nominal_of.ensures
+    ∙ by_newest (nominal_of h.nominal) w k h (sound h start.requires.sound) start.requires.enough in
     let re : SFits w64 m.result.re = search rules in
     let im : SFits w64 m.result.im = search rules in
     let d1 : SFits w32 m.result.d1 = search rules in
@@ -71,20 +55,7 @@ returns c =
       to_z-of_z {w = w64} {z = m.result.im} im,
       to_z-of_z {w = w32} {z = m.result.d1} d1,
       to_z-of_z {w = w32} {z = m.result.d2} d2,
-      c.before.before.before.before.before.before.centre.ensures,
-      c.before.before.before.before.before.spacing.ensures,
+      c.centre-centre.ensures,
+      c.spacing.ensures,
       figures,
     )
-
-pub report-spec : {M : Type 1} → statement M
-report-spec =
-    tie.close
-    (tie.spec
-    centre-requires
-    spacing-requires
-    div-frame
-    cast-frame
-    cast-measure-kept
-    nominal-of-requires
-    measure-kept-requires
-    returns)
