@@ -2,9 +2,8 @@
 use borrow.Author.Rules.{rules}
 use native.Mathlib.Omega.{arith}
 use mathlib.Core.Path.{◌≡◌}
-use Prim.Native.Nat.{◌-◌}
 use lib.ListN.{length}
-use Rattle.text.proofs.Filling.{Filling, start, byte, word, none, done}
+use Rattle.text.proofs.Filling.{start, byte, word, none, done}
 use Rattle.text.proofs.fill.Goals as goal
 
 pub loop-j-init : goal.loop-j-init

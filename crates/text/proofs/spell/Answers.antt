@@ -1,8 +1,6 @@
 -- `text::spell` meets its contract. The loop's invariant is `Spelling`. Assumes nothing.
 use native.Mathlib.Omega.{arith}
-use Prim.Native.Nat.{◌-◌}
-use lib.ListN.{length}
-use Rattle.text.proofs.Spelling.{Spelling, start, byte, done}
+use Rattle.text.proofs.Spelling.{start, byte, done}
 use Rattle.text.proofs.spell.Goals as goal
 
 pub loop-j-init : goal.loop-j-init

@@ -1,5 +1,4 @@
 -- `text::number::glyph` meets its contract: the test of its branch is the definition's. Assumes nothing.
-use borrow.Author.Rules.{rules}
 use borrow.Author.Tests.{lt-ltb, le-ltb}
 use Rattle.text.proofs.number.glyph.Goals as goal
 

@@ -3,8 +3,8 @@
 use native.Mathlib.Nat.{mod-lt}
 use native.Mathlib.Omega.{arith}
 use mathlib.Core.Path.{◌≡◌, refl, sym, ap, ◌∙◌}
-use Prim.Native.Nat.{ℕ, suc, ◌+◌, ◌-◌, ◌/◌, ◌≤◌, ◌<◌}
-use lib.ListN.{length, set, length-set}
+use Prim.Native.Nat.{ℕ, suc, ◌+◌, ◌-◌, ◌/◌, ◌<◌}
+use lib.ListN.{set, length-set}
 use lib.Seq.{sets}
 use Rattle.text.specs.Text.{digits}
 use Rattle.text.proofs.Digits.{digit_stored}
