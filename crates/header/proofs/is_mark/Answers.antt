@@ -1,6 +1,5 @@
 -- `header::is_mark` meets its contract: the three tests are the definition's own. Assumes nothing.
 use mathlib.Core.Path.{refl}
-use borrow.Author.Rules.{rules}
 use Rattle.header.specs.Header.{is_mark}
 use Rattle.header.proofs.is_mark.Goals as goal
 

@@ -1,5 +1,4 @@
 -- `header::meant_rate` answers the rate that a header means: by the two cases of its test. Assumes nothing.
-use borrow.Author.Rules.{rules}
 use Rattle.header.specs.Header.{meant_rate}
 use Rattle.header.proofs.meant_rate.Goals as goal
 

@@ -2,19 +2,12 @@
 use borrow.Author.Rules.{rules}
 use native.Mathlib.Omega.{arith}
 use mathlib.Core.Path.{◌≡◌}
-use Prim.Native.Nat.{◌-◌}
 use lib.ListN.{length}
-use Rattle.text.proofs.Filling.{Filling, start, byte, word, none, done}
+use Rattle.text.proofs.Filling.{start, byte, word, none, done}
 use Rattle.text.proofs.fill.Goals as goal
 
 pub loop-j-init : goal.loop-j-init
 loop-j-init c = start _ _ _ _
-
-pub bounds-form-j : goal.bounds-form-j
-bounds-form-j c = omega arith
-
-pub overflow_add-j : goal.overflow_add-j
-overflow_add-j c = omega arith
 
 pub bounds-out-i : goal.bounds-out-i
 bounds-out-i c = omega (arith, c.loop-j.invariant.room, c.loop-j.invariant.same_length)
@@ -22,35 +15,17 @@ bounds-out-i c = omega (arith, c.loop-j.invariant.room, c.loop-j.invariant.same_
 pub overflow_add-i : goal.overflow_add-i
 overflow_add-i c = omega (arith, c.loop-j.invariant.room, c.loop-j.invariant.same_length)
 
-pub loop-j-smaller-then-b-ne37 : goal.loop-j-smaller-then-b-ne37
-loop-j-smaller-then-b-ne37 c = omega arith
-
 pub loop-j-preserved-then-b-ne37 : goal.loop-j-preserved-then-b-ne37
 loop-j-preserved-then-b-ne37 c = byte c.loop-j.invariant (omega arith) c.if-b-ne37.true
 
-pub offset_bounds-words-k : goal.offset_bounds-words-k
-offset_bounds-words-k c = omega arith
-
-pub bounds-words-k : goal.bounds-words-k
-bounds-words-k c = omega arith
-
 pub put_word-i-requires : goal.put_word-i-requires
 put_word-i-requires c = omega (arith, c.loop-j.invariant.room, c.loop-j.invariant.same_length)
-
-pub overflow_add-k : goal.overflow_add-k
-overflow_add-k c = omega arith
-
-pub loop-j-smaller-then-k-lt11 : goal.loop-j-smaller-then-k-lt11
-loop-j-smaller-then-k-lt11 c = omega arith
 
 pub loop-j-preserved-then-k-lt11 : goal.loop-j-preserved-then-k-lt11
 loop-j-preserved-then-k-lt11 c =
     let v = c.loop-j.invariant in
     let n : length c.args.words ≡ 11 = search rules in
     word v (omega arith) _ c.if-b-ne37.false (omega arith) (omega arith) c.put_word-i.ensures
-
-pub loop-j-smaller : goal.loop-j-smaller
-loop-j-smaller c = omega arith
 
 pub loop-j-preserved : goal.loop-j-preserved
 loop-j-preserved c =

@@ -1,10 +1,7 @@
 -- `text::fill` meets its contract. The loop's invariant is `Filling`, and each way through a turn is one of its steps. Assumes nothing.
-use borrow.Author.Rules.{rules}
-use native.Mathlib.Omega.{arith}
-use mathlib.Core.Path.{◌≡◌}
 use Prim.Native.Nat.{◌-◌}
 use lib.ListN.{length}
-use Rattle.text.proofs.Filling.{Filling, start, byte, word, none, done}
+use Rattle.text.proofs.Filling.{Filling}
 use Rattle.text.proofs.fill.Given as goal
 
 abbrev pub invariant-loop-j : goal.invariant-loop-j

@@ -14,9 +14,9 @@ returns-in-Number c = word_is _ _ c.in-Number.is (omega arith) c.put_number.ensu
 
 pub returns-in-Whole : goal.returns-in-Whole
 returns-in-Whole c =
-    let g = c.w-in-Whole-1.given in
-    let f : SFits w64 g.0.0 = search rules in
-    word_is _ (Whole (to_z w64 (of_z w64 g.0.0))) (g.1 ∙ ap Whole (sym (to_z-of_z {w = w64} {z = g.0.0} f))) (omega arith) c.put_whole.ensures
+    let z = c.in-Whole.z in
+    let f : SFits w64 z = search rules in
+    word_is _ (Whole (to_z w64 (of_z w64 z))) (c.in-Whole.is ∙ ap Whole (sym (to_z-of_z {w = w64} {z = z} f))) (omega arith) c.put_whole.ensures
 
 pub returns-in-Bits : goal.returns-in-Bits
 returns-in-Bits c = word_is _ _ c.in-Bits.is (omega arith) c.put_bits.ensures

@@ -1,24 +1,13 @@
 -- `text::spell` meets its contract. The loop's invariant is `Spelling`. Assumes nothing.
 use native.Mathlib.Omega.{arith}
-use Prim.Native.Nat.{◌-◌}
-use lib.ListN.{length}
-use Rattle.text.proofs.Spelling.{Spelling, start, byte, done}
+use Rattle.text.proofs.Spelling.{start, byte, done}
 use Rattle.text.proofs.spell.Goals as goal
 
 pub loop-j-init : goal.loop-j-init
 loop-j-init c = start _ _ _
 
-pub bounds-bytes-j : goal.bounds-bytes-j
-bounds-bytes-j c = omega arith
-
 pub put_byte-i-requires : goal.put_byte-i-requires
 put_byte-i-requires c = omega (arith, c.loop-j.invariant.place, c.loop-j.invariant.same_length)
-
-pub overflow_add-j : goal.overflow_add-j
-overflow_add-j c = omega arith
-
-pub loop-j-smaller : goal.loop-j-smaller
-loop-j-smaller c = omega arith
 
 pub loop-j-preserved : goal.loop-j-preserved
 loop-j-preserved c = byte c.loop-j.invariant (omega arith) c.put_byte-i.ensures

@@ -1,8 +1,7 @@
 -- `text::spell` meets its contract. The loop's invariant is `Spelling`. Assumes nothing.
-use native.Mathlib.Omega.{arith}
 use Prim.Native.Nat.{◌-◌}
 use lib.ListN.{length}
-use Rattle.text.proofs.Spelling.{Spelling, start, byte, done}
+use Rattle.text.proofs.Spelling.{Spelling}
 use Rattle.text.proofs.spell.Given as goal
 
 abbrev pub invariant-loop-j : goal.invariant-loop-j

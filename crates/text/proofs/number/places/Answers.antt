@@ -24,12 +24,6 @@ overflow_mul-power c =
     let p : 10 ^ c.loop-k.k ≤ 10 ^ 18 = pow-le-pow_right (lit< tt) m in
     omega (arith, v.2)
 
-pub overflow_add-k : goal.overflow_add-k
-overflow_add-k c = omega arith
-
-pub loop-k-smaller : goal.loop-k-smaller
-loop-k-smaller c = omega arith
-
 pub loop-k-preserved : goal.loop-k-preserved
 loop-k-preserved c =
     let v = c.loop-k.invariant in

@@ -1,11 +1,6 @@
 -- `text::number::places` meets its contract. The loop's invariant: `power` is 10 ^ k, and n has at least k digits. Assumes nothing.
-use native.Mathlib.Nat.{pow-le-pow_right}
-use native.Mathlib.Omega.{arith}
-use mathlib.Core.Path.{◌≡◌, refl, sym, ap, ◌∙◌, subst}
-use Prim.Native.Nat.{ℕ, ◌+◌, ◌*◌, ◌-◌, ◌^◌, ◌≤◌, ◌<◌}
-use lib.Dec.{lit<}
-use lib.Pow.{pow-add}
-use Rattle.text.proofs.Digits.{decimal_places}
+use mathlib.Core.Path.{◌≡◌}
+use Prim.Native.Nat.{◌-◌, ◌^◌, ◌≤◌, ◌<◌}
 use Rattle.text.proofs.number.places.Given as goal
 
 abbrev pub invariant-loop-k : goal.invariant-loop-k

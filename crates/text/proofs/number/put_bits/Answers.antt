@@ -1,5 +1,4 @@
 -- `text::number::put_bits` meets its contract. Assumes nothing.
-use borrow.Author.Rules.{rules}
 use Rattle.text.specs.Text.{hex16}
 use Rattle.text.proofs.Writing.{wrote_digits}
 use Rattle.text.proofs.number.put_bits.Goals as goal

@@ -1,5 +1,4 @@
 -- `text::number::put_byte` meets its contract. Assumes nothing.
-use borrow.Author.Rules.{rules}
 use Rattle.text.proofs.Writing.{wrote_digits}
 use Rattle.text.proofs.number.put_byte.Goals as goal
 

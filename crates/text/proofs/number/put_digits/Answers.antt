@@ -3,8 +3,8 @@
 use native.Mathlib.Nat.{mod-lt}
 use native.Mathlib.Omega.{arith}
 use mathlib.Core.Path.{◌≡◌, refl, sym, ap, ◌∙◌}
-use Prim.Native.Nat.{ℕ, suc, ◌+◌, ◌-◌, ◌/◌, ◌≤◌, ◌<◌}
-use lib.ListN.{length, set, length-set}
+use Prim.Native.Nat.{ℕ, suc, ◌+◌, ◌-◌, ◌/◌, ◌<◌}
+use lib.ListN.{set, length-set}
 use lib.Seq.{sets}
 use Rattle.text.specs.Text.{digits}
 use Rattle.text.proofs.Digits.{digit_stored}
@@ -12,12 +12,6 @@ use Rattle.text.proofs.number.put_digits.Goals as goal
 
 pub loop-j-init : goal.loop-j-init
 loop-j-init c = (omega arith, refl, refl)
-
-pub overflow_sub-j : goal.overflow_sub-j
-overflow_sub-j c = omega arith
-
-pub nonzero_rem-rest : goal.nonzero_rem-rest
-nonzero_rem-rest c = omega arith
 
 pub glyph-requires : goal.glyph-requires
 glyph-requires c =
@@ -29,12 +23,6 @@ overflow_add-out c = omega (arith, c.loop-j.invariant.1)
 
 pub bounds-out-at : goal.bounds-out-at
 bounds-out-at c = omega (arith, c.loop-j.invariant.1)
-
-pub nonzero_div-rest : goal.nonzero_div-rest
-nonzero_div-rest c = omega arith
-
-pub loop-j-smaller : goal.loop-j-smaller
-loop-j-smaller c = omega arith
 
 pub loop-j-preserved : goal.loop-j-preserved
 loop-j-preserved c =

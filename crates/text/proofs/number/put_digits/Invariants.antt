@@ -1,13 +1,10 @@
 -- `text::number::put_digits` meets its contract. The loop's invariant: the first j digits of `rest`, stored in the bytes as they are now, give what
 -- is to be shown. Assumes nothing.
-use native.Mathlib.Nat.{mod-lt}
-use native.Mathlib.Omega.{arith}
-use mathlib.Core.Path.{◌≡◌, refl, sym, ap, ◌∙◌}
-use Prim.Native.Nat.{ℕ, suc, ◌+◌, ◌-◌, ◌/◌, ◌≤◌, ◌<◌}
-use lib.ListN.{length, set, length-set}
+use mathlib.Core.Path.{◌≡◌}
+use Prim.Native.Nat.{◌≤◌}
+use lib.ListN.{length}
 use lib.Seq.{sets}
 use Rattle.text.specs.Text.{digits}
-use Rattle.text.proofs.Digits.{digit_stored}
 use Rattle.text.proofs.number.put_digits.Given as goal
 
 abbrev pub invariant-loop-j : goal.invariant-loop-j

@@ -1,5 +1,4 @@
 -- `text::number::put_number` meets its contract: the digits that are put are those of the decimal text. Assumes nothing.
-use borrow.Author.Rules.{rules}
 use mathlib.Core.Path.{sym, subst}
 use mathlib.Core.List.{List}
 use Prim.Native.Nat.{ℕ, ◌+◌}
