@@ -160,8 +160,8 @@ impl Head {
 
     // The head after one sample more: one index on, or at the next second's index 0.
     fn next(self) -> Head
-        requires self_value { faulty self ≡ false }
-        requires self_value_2 { (end_of_time_of self).due ≡ false }
+        requires sound { faulty self ≡ false }
+        requires in_time { (end_of_time_of self).due ≡ false }
         ensures { result ≡ next_head self }
     {
         let held = more_held(self.held);
@@ -210,8 +210,8 @@ impl Head {
 
     // The sample 15 before the next one: of the same second, or of the second before.
     fn centre(self) -> Centre
-        requires self_value { faulty self ≡ false }
-        requires le_held { 30 ≤ self.held }
+        requires sound { faulty self ≡ false }
+        requires enough { 30 ≤ self.held }
         ensures { result ≡ centre_at self }
     {
         if self.index >= 15 {
@@ -261,8 +261,8 @@ impl Head {
 
     // The report that comes with the next sample, of the thirty-one samples and the phases then held: tagged with its centre's SOC and frame.
     fn report(self, window: &[i16; 93], kept: Phases) -> Report
-        requires self_value { faulty self ≡ false }
-        requires le_held { 30 ≤ self.held }
+        requires sound { faulty self ≡ false }
+        requires enough { 30 ≤ self.held }
         ensures { said_report result ≡ report_with self (lent_samples 31 window.now) kept }
     {
         let centre = self.centre();
@@ -308,8 +308,8 @@ impl Feed {
     // One sample more, where it is not refused: it goes in the next place, which then moves on one, and the kept phases move on by one, with the
     // newest centre's last (CR 6). The window is read before the sample is stored, since bytes that were just written are slow to read.
     fn taken(self, s: Sample) -> Pushed
-        requires head_value { faulty self.head ≡ false }
-        requires head_value_2 { (end_of_time_of self.head).due ≡ false }
+        requires sound { faulty self.head ≡ false }
+        requires in_time { (end_of_time_of self.head).due ≡ false }
         ensures { Pushing self s result }
     {
         let head = self.head;

@@ -120,8 +120,8 @@ pub(crate) fn window_with(places: &[u8], place: u8, s: Sample) -> [i16; 93]
 
 // A sample put in a place.
 pub(crate) fn put_sample(places: &mut [u8; 186], place: u8, s: Sample)
-    requires place_bound { place ≤ 30 }
-    requires places_len { length places.old ≡ 186 }
+    requires place_in { place ≤ 30 }
+    requires whole { length places.old ≡ 186 }
     ensures { places.new ≡ with_place places.old place s }
 {
     let six = place_of(s);

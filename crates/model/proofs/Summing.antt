@@ -1,73 +1,56 @@
--- A weighted sum in the making, over any table: after j terms the local holds the sum of the first j, which is at most 1610612736 for each unit of
--- weight. Assumes nothing.
-use Rattle.std.proofs.Common.{◌≡◌, ℕ, ◌+◌, ◌*◌, ◌%◌, ◌<◌, ◌≤◌, List, get_or, ℤ, pos, ◌+ℤ◌, ◌*ℤ◌, nat_abs, sym, refl, ap, ◌∙◌, subst, ap₂, arith, lit≤, w64, SFits, to_z, of_z}
+-- A weighted sum in the making, over any table: one term more of the first j is the first j + 1, and does not overflow, since it is at most
+-- 1610612736 for each unit of weight. Assumes nothing.
+use Rattle.std.proofs.Common.{◌≡◌, ℕ, ◌+◌, ◌*◌, ◌%◌, ◌<◌, ◌≤◌, List, get_or, ℤ, pos, ◌+ℤ◌, ◌*ℤ◌, nat_abs, sym, refl, ap, ◌∙◌, subst, ap₂, arith, lit≤, w64, SFits, to_z, of_z, to_z-of_z}
 use Rattle.ints.specs.Whole.{sum}
-use Rattle.ints.proofs.Size.{size_add}
-use Rattle.ints.proofs.Signed.{Exp, local, whole, ◌⊕◌, at, fits}
+use Rattle.ints.proofs.Size.{size_add, size_fits}
 use Rattle.model.specs.Bounds.{weights, FirstTerms}
 use Rattle.model.specs.Filter.{weight, offset, phase_sum, term, weighted, windowed, no_sample}
 use Rattle.model.specs.declared.filter.Sample.{Sample}
 use Rattle.model.proofs.Same.{phase_sum_same}
-use Rattle.model.proofs.Weights.{weights_all, weights_more, weights_within, weight_within, sum_more}
+use Rattle.model.proofs.Weights.{weights_all, weights_more, weights_within, sum_more}
 use Rattle.model.proofs.Windows.{term_at}
 
 module _ (table : List ℤ) (window : List Sample) (n from : ℕ) where
   abbrev f : ℕ → ℤ
   f = term table (windowed window n) (n + from + 14)
 
-  -- what the local holds after j terms
-  pub record Holds (held j : ℕ) : Type 0 where
-    pub is : held ≡ of_z w64 (sum j f)
-    pub small : nat_abs (sum j f) ≤ weights j * 1610612736
-
   -- none yet
   pub first_none : FirstTerms table window n from 0 (pos 0)
   unfolding sum weights
   first_none = record { is = refl; small = lit≤ tt }
 
-  -- a local that begins with the first j
-  pub holds_first : (j k : ℕ) (z : ℤ) → j ≡ k → FirstTerms table window n from j z → Holds (of_z w64 z) k
-  holds_first j k z e t =
-      subst (Holds (of_z w64 z)) e (record { is = ap (of_z w64) t.is; small = subst (λ (y : ℤ). nat_abs y ≤ weights j * 1610612736) t.is t.small })
+  -- one term more, x, as the machine adds it to a local: it does not overflow, and the sum is then one term longer
+  pub record More (bits j : ℕ) (x : ℤ) : Type 0 where
+    pub fits : SFits w64 (to_z w64 bits +ℤ to_z w64 (of_z w64 x))
+    pub longer : FirstTerms table window n from (j + 1) (to_z w64 (of_z w64 (to_z w64 bits +ℤ to_z w64 (of_z w64 x))))
 
-  -- one term more, x: the sum does not overflow, and the local then holds it
-  abbrev pub More : ℕ → ℕ → ℤ → Type 0
-  More held j x = let z = to_z w64 held +ℤ to_z w64 (of_z w64 x) in SFits w64 z × Holds (of_z w64 z) (j + 1)
-
-  -- it does where x is the term of the sample at place from + j, which meets entry m
-  module _ (held j m : ℕ) (x : ℤ) (h : Holds held j) (inside : j < 29) (e : m % 15 ≡ (n + from + j) % 15)
-      (x_is : x ≡ pos (weight (offset j)) *ℤ phase_sum table (get_or window (from + j) no_sample) m) (x_small : nat_abs x ≤ weight (offset j) * 1610612736) where
-    abbrev before : Exp w64
-    before = local held (sum j f) 700616540160 h.is (omega (arith, h.small, weights_within j))
-
-    abbrev more : Exp w64
-    more = whole x 24159191040 (omega (arith, x_small, weight_within j))
-
+  -- it is where x is the term of the sample at place from + j, which meets entry m
+  module _ (bits j m : ℕ) (x : ℤ) (t : FirstTerms table window n from j (to_z w64 bits)) (inside : j < 29)
+      (e : m % 15 ≡ (n + from + j) % 15) (x_is : x ≡ pos (weight (offset j)) *ℤ phase_sum table (get_or window (from + j) no_sample) m)
+      (x_small : nat_abs x ≤ weight (offset j) * 1610612736) where
     term_is : x ≡ f j
     term_is =
-        x_is ∙ ap (λ (z : ℤ). pos (weight (offset j)) *ℤ z) (phase_sum_same table (get_or window (from + j) no_sample) m (n + from + j) e) ∙ sym (term_at table window n from j)
+        x_is ∙ ap (λ (y : ℤ). pos (weight (offset j)) *ℤ y) (phase_sum_same table (get_or window (from + j) no_sample) m (n + from + j) e) ∙ sym (term_at table window n from j)
 
-    grown : nat_abs (sum j f +ℤ f j) ≤ weights (j + 1) * 1610612736
-    grown =
-        let g : nat_abs (f j) ≤ weight (offset j) * 1610612736 = subst (λ (z : ℤ). nat_abs z ≤ weight (offset j) * 1610612736) term_is x_small in
-        omega (arith, size_add (sum j f) (f j), h.small, weights_more j)
+    abbrev z : ℤ
+    z = to_z w64 bits
 
-    pub one_more : More held j x
-    one_more = (
-      fits (before ⊕ more) tt,
-      record {
-        is = ap₂ (λ (a b : ℤ). of_z w64 (a +ℤ b)) (at before tt) (at more tt ∙ term_is) ∙ ap (of_z w64) (sym (sum_more f j));
-        small = subst (λ (z : ℤ). nat_abs z ≤ weights (j + 1) * 1610612736) (sym (sum_more f j)) grown;
-      },
-    )
+    grown : nat_abs (z +ℤ x) ≤ weights (j + 1) * 1610612736
+    grown = omega (arith, size_add z x, t.small, x_small, weights_more j)
 
-  -- and back: what a local that holds the first j stands for
-  pub first_terms : (held j k : ℕ) → j ≡ k → k ≤ 29 → Holds held j → FirstTerms table window n from k (to_z w64 held)
-  first_terms held j k e inside h =
-      let all : Exp w64 = local held (sum j f) 700616540160 h.is (omega (arith, h.small, weights_within j)) in
-      let is = at all tt in
-      subst (λ (m : ℕ). FirstTerms table window n from m (to_z w64 held)) e
-      (record { is = is; small = subst (λ (z : ℤ). nat_abs z ≤ weights j * 1610612736) (sym is) h.small })
+    whole : {y : ℤ} → nat_abs y ≤ weights (j + 1) * 1610612736 → SFits w64 y
+    whole {y} s = size_fits y s (omega (arith, weights_within (j + 1)))
+
+    added : z +ℤ to_z w64 (of_z w64 x) ≡ z +ℤ x
+    added = ap (λ (y : ℤ). z +ℤ y) (to_z-of_z {w = w64} {z = x} (whole (omega (arith, x_small, weights_more j))))
+
+    pub one_more : More bits j x
+    one_more = record {
+      fits = subst (SFits w64) (sym added) (whole grown);
+      longer =
+          subst (FirstTerms table window n from (j + 1)) (sym (ap (λ (y : ℤ). to_z w64 (of_z w64 y)) added ∙ to_z-of_z {w = w64} {z = z +ℤ x} (whole grown)))
+          (record { is = ap₂ (λ (a b : ℤ). a +ℤ b) t.is term_is ∙ sym (sum_more f j); small = grown });
+    }
 
   -- all 29
   module _ (z : ℤ) (t : FirstTerms table window n from 29 z) where

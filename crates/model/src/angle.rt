@@ -90,7 +90,7 @@ fn either_angle(test: bool, x: Angle, y: Angle) -> Angle
 
 // Step i, on what the step before it left, where a is A(i).
 fn one_step(re: i64, im: i64, angle: Angle, i: usize, a: u32) -> Turning
-    requires i_bound { (i < 24) × (a ≡ arctan i) }
+    requires step_number { (i < 24) × (a ≡ arctan i) }
     requires sized { Sized (2 ^ 60) re im }
     ensures { result ≡ step i (record { re = re; im = im; angle = angle }) }
 {
@@ -109,9 +109,9 @@ fn one_step(re: i64, im: i64, angle: Angle, i: usize, a: u32) -> Turning
 
 // The angle's parts after the steps that are left, from 24 down to none.
 fn steps_left(left: usize, re: i64, im: i64, angle: Angle, table: &[u32; 24]) -> u32
-    requires left_bound { left ≤ 24 }
+    requires at_most_24 { left ≤ 24 }
     requires sized { Sized (cap (24 - left)) re im }
-    requires table_value { table.now ≡ arctans }
+    requires table_is { table.now ≡ arctans }
     ensures { result ≡ (steps left (record { re = re; im = im; angle = angle })).angle.parts }
 {
     if left == 0 {

@@ -92,7 +92,7 @@ fn minus(x: i16, y: i16) -> i32
 
 // A number times entry n of a table.
 fn times_entry(x: i32, table: &[i32; 30], n: usize) -> i32
-    requires n_bound { (n < 30) × (unsigned_abs x ≤ 65536) }
+    requires within { (n < 30) × (unsigned_abs x ≤ 65536) }
     requires tabled { Tabled table.now }
     ensures is { result ≡ x *ℤ entry_at table.now n }
     ensures small { unsigned_abs result ≤ 1073741824 }
@@ -104,7 +104,7 @@ fn times_entry(x: i32, table: &[i32; 30], n: usize) -> i32
 // a·cos n + b·cos(n-5) + c·cos(n-10) of a sample, or the same with sin, where m is n - 5 in either turn. The three entries add to 0, so c needs none
 // of its own: it counts against a and against b.
 fn phase_sum(s: Sample, table: &[i32; 30], n: usize, m: usize) -> i32
-    requires n_bound { (n < 30) × (m < 30) × (m % 15 ≡ (n + 10) % 15) }
+    requires entries { (n < 30) × (m < 30) × (m % 15 ≡ (n + 10) % 15) }
     requires tabled { Tabled table.now }
     ensures is { result ≡ phase_sum table.now s n }
     ensures small { unsigned_abs result ≤ 1610612736 }
@@ -116,8 +116,8 @@ fn phase_sum(s: Sample, table: &[i32; 30], n: usize, m: usize) -> i32
 
 // Term j of a sum: the weight times the phase sum of its sample, which meets entry n; m is n - 5 in either turn.
 fn term_of(s: Sample, table: &[i32; 30], n: usize, m: usize, j: usize) -> i64
-    requires n_bound { (n < 30) × (m < 30) × (m % 15 ≡ (n + 10) % 15) }
-    requires j_bound { j < 29 }
+    requires entries { (n < 30) × (m < 30) × (m % 15 ≡ (n + 10) % 15) }
+    requires term { j < 29 }
     requires tabled { Tabled table.now }
     ensures is { result ≡ pos (weight (offset j)) *ℤ phase_sum table.now s n }
     ensures small { unsigned_abs result ≤ weight (offset j) * 1610612736 }
@@ -139,10 +139,10 @@ fn with_terms(
     cosines: &[i32; 30],
     sines: &[i32; 30],
 ) -> Sums
-    requires n_bound { (n < 15) × (from ≤ 2) × (first % 15 ≡ 0) × (count ≤ 15) × (first + count ≤ 29) }
+    requires run { (n < 15) × (from ≤ 2) × (first % 15 ≡ 0) × (count ≤ 15) × (first + count ≤ 29) }
     requires tabled { Tabled cosines.now × Tabled sines.now }
-    requires first_terms { FirstTerms cosines.now (lent_samples 31 window.now) n from first sums.cosine }
-    requires first_terms_2 { FirstTerms sines.now (lent_samples 31 window.now) n from first sums.sine }
+    requires cosine_first { FirstTerms cosines.now (lent_samples 31 window.now) n from first sums.cosine }
+    requires sine_first { FirstTerms sines.now (lent_samples 31 window.now) n from first sums.sine }
     ensures cosine { FirstTerms cosines.now (lent_samples 31 window.now) n from (first + count) result.cosine }
     ensures sine { FirstTerms sines.now (lent_samples 31 window.now) n from (first + count) result.sine }
 {
@@ -172,7 +172,7 @@ fn weighted_sums(
     cosines: &[i32; 30],
     sines: &[i32; 30],
 ) -> Sums
-    requires n_bound { (n < 15) × (from ≤ 2) }
+    requires placed { (n < 15) × (from ≤ 2) }
     requires tabled { Tabled cosines.now × Tabled sines.now }
     ensures cosine { result.cosine ≡ weighted cosines.now (windowed (lent_samples 31 window.now) n) (n + from + 14) }
     ensures sine { result.sine ≡ weighted sines.now (windowed (lent_samples 31 window.now) n) (n + from + 14) }

@@ -1,12 +1,12 @@
--- Text put where there is room, `Wrote`, and what a public call makes of it, `Put`. By the laws of `sets`. Assumes nothing.
-use Prim.Native.Nat.{ℕ, ◌+◌, ◌-◌, ◌≤◌}
+-- Text put where there is room, `Wrote`, and what a public call, `Put`, gives its callers. By the laws of `sets`. Assumes nothing.
+use Prim.Native.Nat.{ℕ, ◌+◌, ◌≤◌}
 use mathlib.Core.Path.{◌≡◌, refl, sym, ap, ◌∙◌, subst}
 use mathlib.Core.Bool.{Bool, true, false, cond}
 use mathlib.Core.List.{List, [], ◌∷◌}
 use native.Mathlib.Nat.{le_trans}
 use native.Mathlib.Numerals.{add-one}
 use native.Mathlib.Omega.{arith}
-use borrow.Author.Tests.{leb-true, leb-false, le-leb, lt-leb}
+use borrow.Author.Tests.{leb-true, le-leb}
 use lib.Dec.{leb}
 use lib.ListN.{length, set}
 use lib.Seq.{sets, length-sets}
@@ -41,28 +41,6 @@ byte_before b {at = at} {text = text} {before = before} w =
 -- a text of no bytes
 pub nothing : {m at : ℕ} {before : List ℕ} → Wrote m [] before at at before
 nothing = record { ends = omega arith; bytes = refl; short = omega arith }
-
--- a call that has room
-pub put_done : {room at r : ℕ} {text before after : List ℕ} → leb (at + room) (length before) ≡ true → Wrote room text before at r after → Put room text before at r after
-put_done {room} {at} {r} {text} {before} {after} h w =
-    let both : ◌≡◌ {A = ℕ × List ℕ} (r, after) (at + length text, sets before at text) = λ i. (w.ends i, w.bytes i) in
-    record {
-      outcome = both ∙ sym (ap (λ (t : Bool). cond t (at + length text, sets before at text) (at, before)) h);
-      short = omega (arith, w.ends, w.short);
-    }
-
--- a call that has none
-pub put_left : {room at : ℕ} {text before : List ℕ} → leb (at + room) (length before) ≡ false → Put room text before at at before
-put_left {room} {at} {text} {before} h =
-    record { outcome = sym (ap (λ (t : Bool). cond t (at + length text, sets before at text) (at, before)) h); short = omega arith }
-
--- the test for room that does not overflow
-pub room_left : (len at room : ℕ) → room ≤ len → leb at (len - room) ≡ leb (at + room) len
-room_left len at room h = by (leb at (len - room)) refl
-  where
-    by : (t : Bool) → leb at (len - room) ≡ t → t ≡ leb (at + room) len
-    by true e = sym (le-leb (at + room) len (omega (arith, leb-true at (len - room) e)))
-    by false e = sym (lt-leb (at + room) len (omega (arith, leb-false at (len - room) e)))
 
 -- ---- for callers
 

@@ -8,7 +8,7 @@ use Rattle.model.proofs.angle.first_quadrant.Statement.{statement}
 use Rattle.model.proofs.angle.first_quadrant.Tie as tie
 
 -- what is known once both parts are read
-module _ (c : tie.After-struct-told2) where
+module _ (c : tie.After-struct_told-2-1) where
   abbrev p : Phasor
   p = c.before.before.args.p
 
@@ -22,46 +22,46 @@ module _ (c : tie.After-struct-told2) where
   tested : {b : Bool} (test : ℤ → ℤ → Bool) → test (to_z w64 (of_z w64 p.re)) (to_z w64 (of_z w64 p.im)) ≡ b → test p.re p.im ≡ b
   tested test e = sym (ap₂ test (at re tt) (at im tt)) ∙ e
 
-returns : tie.Need-returns
+returns : tie.Need-returns-then-re-im
 returns c =
     let b = c.before in
-    (λ i. record { re = at (re b) tt i; im = at (im b) tt i; angle = zero_turn }) ∙ sym (turned_1 (p b) (tested b first c.if1.true))
+    (λ i. record { re = at (re b) tt i; im = at (im b) tt i; angle = zero_turn }) ∙ sym (turned_1 (p b) (tested b first c.if-re-im.true))
 
-sub-t8 : tie.Need-overflow-sub-t8
+sub-t8 : tie.Need-overflow_sub-result
 sub-t8 c = fits (neg (re c.before.before)) tt
 
-returns-2 : tie.Need-returns-2
+returns-2 : tie.Need-returns-then-re-im-2
 returns-2 c =
     let b = c.before.before in
     (λ i. record { re = at (im b) tt i; im = at (neg (re b)) tt i; angle = quarter_turn })
-    ∙ sym (turned_2 (p b) (tested b first c.before.if1.false) (tested b second c.if2.true))
+    ∙ sym (turned_2 (p b) (tested b first c.before.if-re-im.false) (tested b second c.if-re-im-2.true))
 
-sub-t10 : tie.Need-overflow-sub-t10
+sub-t10 : tie.Need-overflow_sub-result-then-re-im-3
 sub-t10 c = fits (neg (re c.before.before.before)) tt
 
-sub-t11 : tie.Need-overflow-sub-t11
+sub-t11 : tie.Need-overflow_sub-result-then-re-im-3-2
 sub-t11 c = fits (neg (im c.before.before.before)) tt
 
-returns-3 : tie.Need-returns-3
+returns-3 : tie.Need-returns-then-re-im-3
 returns-3 c =
     let b = c.before.before.before in
     (λ i. record { re = at (neg (re b)) tt i; im = at (neg (im b)) tt i; angle = half_turn })
-    ∙ sym (turned_3 (p b) (tested b first c.before.before.if1.false) (tested b second c.before.if2.false) (tested b third c.if3.true))
+    ∙ sym (turned_3 (p b) (tested b first c.before.before.if-re-im.false) (tested b second c.before.if-re-im-2.false) (tested b third c.if-re-im-3.true))
 
-sub-t13 : tie.Need-overflow-sub-t13
+sub-t13 : tie.Need-overflow_sub-result-2
 sub-t13 c = fits (neg (im c.before.before.before)) tt
 
 more-requires : tie.Need-more-requires
 more-requires c κs = search rules
 
-returns-4 : tie.Need-returns-4
+returns-4 : tie.Need-returns
 returns-4 c =
     let d = c.before in
     let b = d.before.before.before in
     (λ i. record { re = at (neg (im b)) tt i; im = at (re b) tt i; angle = c.more.ensures i })
-    ∙ sym (turned_4 (p b) (tested b first d.before.before.if1.false) (tested b second d.before.if2.false) (tested b third d.if3.false))
+    ∙ sym (turned_4 (p b) (tested b first d.before.before.if-re-im.false) (tested b second d.before.if-re-im-2.false) (tested b third d.if-re-im-3.false))
 
-pub first-quadrant-spec : {M : Type 1} → statement M
-first-quadrant-spec =
+pub first_quadrant_spec : {M : Type 1} → statement M
+first_quadrant_spec =
     tie.close
     (tie.spec returns sub-t8 returns-2 sub-t10 sub-t11 returns-3 sub-t13 more-requires returns-4)

@@ -10,20 +10,20 @@ use Rattle.model.proofs.Stepping.{step_still, step_chosen, handed_on}
 use Rattle.model.proofs.angle.one_step.Statement.{statement}
 use Rattle.model.proofs.angle.one_step.Tie as tie
 
-returns : tie.Need-returns
+returns : tie.Need-returns-then-im-eq0
 returns c =
     let s = c.before in
     let v : Turning = record { re = s.args.re; im = s.args.im; angle = s.args.angle } in
-    handed_on v s.ranges.re s.ranges.im ∙ step_still s.args.i v (sym (to_z-of_z s.ranges.im) ∙ ap (to_z w64) c.if1.true)
+    handed_on v s.ranges.re s.ranges.im ∙ step_still s.args.i v (sym (to_z-of_z s.ranges.im) ∙ ap (to_z w64) c.if-im-eq0.true)
 
-floor-shift-requires : tie.Need-floor-shift-requires
+floor-shift-requires : tie.Need-floor_shift-re_part-requires
 floor-shift-requires c κs = search rules
 
-floor-shift-requires-2 : tie.Need-floor-shift-requires-2
+floor-shift-requires-2 : tie.Need-floor_shift-im_part-requires
 floor-shift-requires-2 c κs = search rules
 
 -- what is known once both parts are shifted
-module _ (c : tie.After-floor-shift2) where
+module _ (c : tie.After-floor_shift-im_part) where
   abbrev start : tie.Start
   start = c.before.before.before
 
@@ -34,36 +34,36 @@ module _ (c : tie.After-floor-shift2) where
   i = start.args.i
 
   abbrev re : Exp w64
-  re = whole v.re (2 ^ 60) start.pre.1.re_size
+  re = whole v.re (2 ^ 60) start.requires.1.re_size
 
   abbrev im : Exp w64
-  im = whole v.im (2 ^ 60) start.pre.1.im_size
+  im = whole v.im (2 ^ 60) start.requires.1.im_size
 
-  re_floor : c.before.floor-shift.result ≡ floor_div v.re (2 ^ i)
-  re_floor = c.before.floor-shift.ensures ∙ ap (λ (z : ℤ). floor_div z (2 ^ i)) (at re tt)
+  re_floor : c.before.floor_shift-re_part.result ≡ floor_div v.re (2 ^ i)
+  re_floor = c.before.floor_shift-re_part.ensures ∙ ap (λ (z : ℤ). floor_div z (2 ^ i)) (at re tt)
 
-  im_floor : c.floor-shift2.result ≡ floor_div v.im (2 ^ i)
-  im_floor = c.floor-shift2.ensures ∙ ap (λ (z : ℤ). floor_div z (2 ^ i)) (at im tt)
+  im_floor : c.floor_shift-im_part.result ≡ floor_div v.im (2 ^ i)
+  im_floor = c.floor_shift-im_part.ensures ∙ ap (λ (z : ℤ). floor_div z (2 ^ i)) (at im tt)
 
   abbrev re_part : Exp w64
-  re_part = local (of_z w64 c.before.floor-shift.result) (floor_div v.re (2 ^ i)) (2 ^ 60) (ap (of_z w64) re_floor) (within (shift re i))
+  re_part = local (of_z w64 c.before.floor_shift-re_part.result) (floor_div v.re (2 ^ i)) (2 ^ 60) (ap (of_z w64) re_floor) (within (shift re i))
 
   abbrev im_part : Exp w64
-  im_part = local (of_z w64 c.floor-shift2.result) (floor_div v.im (2 ^ i)) (2 ^ 60) (ap (of_z w64) im_floor) (within (shift im i))
+  im_part = local (of_z w64 c.floor_shift-im_part.result) (floor_div v.im (2 ^ i)) (2 ^ 60) (ap (of_z w64) im_floor) (within (shift im i))
 
-sub-either : tie.Need-overflow-sub-either
+sub-either : tie.Need-overflow_sub-re
 sub-either c = fits (re c ⊖ im_part c) tt
 
-add-either : tie.Need-overflow-add-either
+add-either : tie.Need-overflow_add-re
 add-either c = fits (re c ⊕ im_part c) tt
 
 either-requires : tie.Need-either-requires
 either-requires c κs = search rules
 
-add-either-2 : tie.Need-overflow-add-either-2
+add-either-2 : tie.Need-overflow_add-im
 add-either-2 c = fits (im c.before ⊕ re_part c.before) tt
 
-sub-either-2 : tie.Need-overflow-sub-either-2
+sub-either-2 : tie.Need-overflow_sub-im
 sub-either-2 c = fits (im c.before ⊖ re_part c.before) tt
 
 either-requires-2 : tie.Need-either-requires-2
@@ -75,27 +75,27 @@ fewer-requires c κs = search rules
 more-requires : tie.Need-more-requires
 more-requires c κs = search rules
 
-either-angle-requires : tie.Need-either-angle-requires
+either-angle-requires : tie.Need-either_angle-requires
 either-angle-requires c κs = search rules
 
-returns-2 : tie.Need-returns-2
+returns-2 : tie.Need-returns
 returns-2 c =
     let f = c.before.before.before in
     let b = f.before.before in
     let a-is = (start b).requires.0.1 in
     let re-fits : SFits w64 f.before.either.result = search rules in
-    let im-fits : SFits w64 f.either2.result = search rules in
+    let im-fits : SFits w64 f.either-2.result = search rules in
     let re-is = to_z-of_z re-fits ∙ f.before.either.ensures
     ∙ λ j. cond (lt_z (at (im b) tt j) (pos 0)) (at (re b ⊖ im_part b) tt j) (at (re b ⊕ im_part b) tt j) in
-    let im-is = to_z-of_z im-fits ∙ f.either2.ensures
+    let im-is = to_z-of_z im-fits ∙ f.either-2.ensures
     ∙ λ j. cond (lt_z (at (im b) tt j) (pos 0)) (at (im b ⊕ re_part b) tt j) (at (im b ⊖ re_part b) tt j) in
     let more-is = c.before.more.ensures ∙ ap (gains (v b).angle) a-is in
     let fewer-is = c.before.before.fewer.ensures ∙ ap (loses (v b).angle) a-is in
-    let angle-is = c.either-angle.ensures ∙ λ j. cond (lt_z (at (im b) tt j) (pos 0)) (fewer-is j) (more-is j) in
-    (λ j. record { re = re-is j; im = im-is j; angle = angle-is j }) ∙ step_chosen (i b) (v b) (λ e. b.before.before.if1.false (ap (of_z w64) e))
+    let angle-is = c.either_angle.ensures ∙ λ j. cond (lt_z (at (im b) tt j) (pos 0)) (fewer-is j) (more-is j) in
+    (λ j. record { re = re-is j; im = im-is j; angle = angle-is j }) ∙ step_chosen (i b) (v b) (λ e. b.before.before.if-im-eq0.false (ap (of_z w64) e))
 
-pub one-step-spec : {M : Type 1} → statement M
-one-step-spec =
+pub one_step_spec : {M : Type 1} → statement M
+one_step_spec =
     tie.close
     (tie.spec
     returns

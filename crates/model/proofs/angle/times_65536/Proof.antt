@@ -12,15 +12,15 @@ module _ (c : tie.Start) where
   abbrev im : Exp w64
   im = whole c.args.p.im 362387865600 c.requires.im_size ⊗ lit (pos 65536)
 
-mul-x : tie.Need-overflow-mul-x
+mul-x : tie.Need-overflow_mul-x
 mul-x c = fits (re c.before.before) tt
 
-mul-y : tie.Need-overflow-mul-y
+mul-y : tie.Need-overflow_mul-y
 mul-y c = fits (im c.before.before) tt
 
 returns : tie.Need-returns
 unfolding scaled
 returns c = let s = c.before.before in λ i. record { re = at (re s) tt i; im = at (im s) tt i }
 
-pub times-65536-spec : {M : Type 1} → statement M
-times-65536-spec = tie.close (tie.spec mul-x mul-y returns)
+pub times_65536_spec : {M : Type 1} → statement M
+times_65536_spec = tie.close (tie.spec mul-x mul-y returns)

@@ -11,17 +11,17 @@ module _ (c : tie.Start) where
   abbrev y : Exp w32
   y = cast w16 c.args.y c.ranges.y
 
-cast-from : tie.Need-overflow-cast-from
+cast-from : tie.Need-overflow_cast-from
 cast-from c = fits (x c) tt
 
-cast-off : tie.Need-overflow-cast-off
+cast-off : tie.Need-overflow_cast-off
 cast-off c = fits (y c) tt
 
-sub-result : tie.Need-overflow-sub-result
+sub-result : tie.Need-overflow_sub-result
 sub-result c = fits (x c ⊖ y c) tt
 
 returns : tie.Need-returns
 returns c = (at (x c ⊖ y c) tt, sized (x c ⊖ y c) tt)
 
-pub minus-spec : {M : Type 1} → statement M
-minus-spec = tie.close (tie.spec cast-from cast-off sub-result returns)
+pub minus_spec : {M : Type 1} → statement M
+minus_spec = tie.close (tie.spec cast-from cast-off sub-result returns)

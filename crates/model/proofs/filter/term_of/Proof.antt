@@ -8,39 +8,39 @@ use borrow.Author.Rules.{sfits_of}
 use Rattle.model.proofs.filter.term_of.Statement.{statement}
 use Rattle.model.proofs.filter.term_of.Tie as tie
 
-weight-of-requires : tie.Need-weight-of-requires
+weight-of-requires : tie.Need-weight_of-g-requires
 weight-of-requires c κs = search rules
 
-abbrev g : tie.After-weight-of → Exp w64
-g c = count c.weight-of.result 15 (omega (arith, c.weight-of.ensures, weight_within c.before.args.j))
+abbrev g : tie.After-weight_of-g → Exp w64
+g c = count c.weight_of-g.result 15 (omega (arith, c.weight_of-g.ensures, weight_within c.before.args.j))
 
-abbrev x : tie.After-phase-sum → Exp w64
-x c = cast w32 c.phase-sum.result (sfits_of c.phase-sum.type-inv)
+abbrev x : tie.After-phase_sum-x → Exp w64
+x c = cast w32 c.phase_sum-x.result (sfits_of c.phase_sum-x.type_inv)
 
-abbrev product : tie.After-phase-sum → Exp w64
+abbrev product : tie.After-phase_sum-x → Exp w64
 product c = g c.before ⊗ x c
 
-cast-g : tie.Need-overflow-cast-g
+cast-g : tie.Need-overflow_cast-g
 cast-g c = fits (g c) tt
 
-phase-sum-requires : tie.Need-phase-sum-requires
+phase-sum-requires : tie.Need-phase_sum-x-requires
 phase-sum-requires c κs = search rules
 
-cast-x : tie.Need-overflow-cast-x
+cast-x : tie.Need-overflow_cast-x
 cast-x c = fits (x c) tt
 
-mul-result : tie.Need-overflow-mul-result
+mul-result : tie.Need-overflow_mul-result
 mul-result c = fits (product c) tt
 
 returns : tie.Need-returns
 returns c =
-    let w = c.before.weight-of in
-    let x = c.phase-sum in
+    let w = c.before.weight_of-g in
+    let x = c.phase_sum-x in
     let e = at (product c) tt in (
       e ∙ ap₂ (λ (n : ℕ) (z : ℤ). pos n *ℤ z) w.ensures x.ensures.0,
       subst (λ (z : ℤ). nat_abs z ≤ weight (offset c.before.before.args.j) * 1610612736) (sym e) (size_mul_le (pos w.result) x.result (omega (arith, w.ensures)) x.ensures.1),
     )
 
-pub term-of-spec : {M : Type 1} → statement M
-term-of-spec =
+pub term_of_spec : {M : Type 1} → statement M
+term_of_spec =
     tie.close (tie.spec weight-of-requires cast-g phase-sum-requires cast-x mul-result returns)

@@ -18,17 +18,17 @@ module _ (c : tie.Start) where
       whole c.args.x 65536 c.requires.0.1
       ⊗ whole read 16384 (subst (λ (z : ℤ). nat_abs z ≤ 16384) (sym is_entry) (c.requires.1.small c.args.n))
 
-mul-e : tie.Need-overflow-mul-e
+mul-e : tie.Need-offset_bounds-table-n
 mul-e c = search rules
 
-element-copy-out-e : tie.Need-element-copy-out-e
+element-copy-out-e : tie.Need-bounds-table-n
 element-copy-out-e c = search rules
 
-mul-result : tie.Need-overflow-mul-result
+mul-result : tie.Need-overflow_mul-result
 mul-result c = fits (product c.before) tt
 
 returns : tie.Need-returns
 returns c = let s = c.before in (at (product s) tt ∙ ap (λ (z : ℤ). s.args.x *ℤ z) (is_entry s), sized (product s) tt)
 
-pub times-entry-spec : {M : Type 1} → statement M
-times-entry-spec = tie.close (tie.spec mul-e element-copy-out-e mul-result returns)
+pub times_entry_spec : {M : Type 1} → statement M
+times_entry_spec = tie.close (tie.spec mul-e element-copy-out-e mul-result returns)

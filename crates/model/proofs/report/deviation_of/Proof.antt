@@ -9,7 +9,7 @@ use Rattle.model.proofs.report.deviation_of.Tie as tie
 sampling-requires : tie.Need-sampling-requires
 sampling-requires c κs = search rules
 
-cast-half : tie.Need-overflow-cast-half
+cast-half : tie.Need-overflow_cast-half
 cast-half c = search rules
 
 module _ (c : tie.After-sampling) where
@@ -19,10 +19,10 @@ module _ (c : tie.After-sampling) where
   abbrev n : Exp w64
   n = d ⊗ count (c.sampling.result / 2) 450 (omega (arith, c.sampling.ensures, sampling_within c.before.args.nominal))
 
-cast-d : tie.Need-overflow-cast-d
+cast-d : tie.Need-overflow_cast-d
 cast-d c = fits (d c) tt
 
-mul-n : tie.Need-overflow-mul-n
+mul-n : tie.Need-overflow_mul-n
 mul-n c = fits (n c) tt
 
 divided-requires : tie.Need-divided-requires
@@ -33,6 +33,6 @@ returns c =
     let b = c.before in
     c.divided.ensures ∙ ap (λ (z : ℤ). over z 4294967296) (at (n b) tt ∙ ap (λ (k : ℕ). b.before.args.d1 *ℤ pos (k / 2)) b.sampling.ensures)
 
-pub deviation-of-spec : {M : Type 1} → statement M
-deviation-of-spec =
+pub deviation_of_spec : {M : Type 1} → statement M
+deviation_of_spec =
     tie.close (tie.spec sampling-requires cast-half cast-d mul-n divided-requires returns)

@@ -22,19 +22,19 @@ module _ (s : tie.Start) where
   abbrev error : Exp w64
   error = unit ⊗ device ⊖ reference
 
-cast-figure : tie.Need-overflow-cast-figure
+cast-figure : tie.Need-overflow_cast-figure
 cast-figure c = search rules
 
-cast-figure-2 : tie.Need-overflow-cast-figure-2
+cast-figure-2 : tie.Need-overflow_cast-figure-2
 cast-figure-2 c = fits (device c) tt
 
-mul-figure : tie.Need-overflow-mul-figure
+mul-figure : tie.Need-overflow_mul-figure
 mul-figure c = fits (unit c ⊗ device c) tt
 
-cast-error : tie.Need-overflow-cast-error
+cast-error : tie.Need-overflow_cast-error
 cast-error c = fits (reference c) tt
 
-sub-error : tie.Need-overflow-sub-error
+sub-error : tie.Need-overflow_sub-error
 sub-error c = fits (error c) tt
 
 size-requires : tie.Need-size-requires
@@ -43,7 +43,7 @@ size-requires c κs = omega (arith, sized (error c) tt)
 returns : tie.Need-returns
 returns c = c.size.ensures ∙ ap nat_abs (at (error c.before) tt)
 
-pub apart-spec : {M : Type 1} → statement M
-apart-spec =
+pub apart_spec : {M : Type 1} → statement M
+apart_spec =
     tie.close
     (tie.spec cast-figure cast-figure-2 mul-figure cast-error sub-error size-requires returns)

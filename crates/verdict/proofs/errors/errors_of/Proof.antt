@@ -12,7 +12,7 @@ use Rattle.verdict.proofs.Bounds.{errors_small}
 use Rattle.verdict.proofs.errors.errors_of.Statement.{statement}
 use Rattle.verdict.proofs.errors.errors_of.Tie as tie
 
-error-squared-requires : tie.Need-error-squared-requires
+error-squared-requires : tie.Need-error_squared-requires
 error-squared-requires c κs = search rules
 
 -- every figure fits its width
@@ -48,13 +48,13 @@ module _ (c : tie.Start) where
   abbrev im : Exp w32
   im = cast w16 c.args.reference.im q_im
 
-cast-squares-of : tie.Need-overflow-cast-squares-of
+cast-squares-of : tie.Need-overflow_cast-reference
 cast-squares-of c = fits (re c.before.before.before) tt
 
-cast-squares-of-2 : tie.Need-overflow-cast-squares-of-2
+cast-squares-of-2 : tie.Need-overflow_cast-reference-2
 cast-squares-of-2 c = fits (im c.before.before.before.before.before) tt
 
-squares-of-requires : tie.Need-squares-of-requires
+squares-of-requires : tie.Need-squares_of-requires
 squares-of-requires c κs = search rules
 
 apart-requires : tie.Need-apart-requires
@@ -72,15 +72,15 @@ returns c =
     let s = error.before in
     let d = s.args.device in
     let q = s.args.reference in
-    let m = reference.squares-of.ensures ∙ ap₂ squares (at (re s) tt) (at (im s) tt) in
+    let m = reference.squares_of.ensures ∙ ap₂ squares (at (re s) tt) (at (im s) tt) in
     let f = fe.apart.ensures ∙ ap₂ frequency_error (to_z-of_z (d_deviation s)) (to_z-of_z (q_deviation s)) in
-    let r = c.apart2.ensures ∙ ap₂ rocof_error (to_z-of_z (d_rocof s)) (to_z-of_z (q_rocof s)) in
+    let r = c.apart-2.ensures ∙ ap₂ rocof_error (to_z-of_z (d_rocof s)) (to_z-of_z (q_rocof s)) in
     let same : ◌≡◌ {A = Errors} _ (errors_of d q) =
-    λ i. record { error_squared = error.error-squared.ensures i; reference_squared = m i; frequency = f i; rocof = r i } in
+    λ i. record { error_squared = error.error_squared.ensures i; reference_squared = m i; frequency = f i; rocof = r i } in
     (same, subst Small (sym same) (errors_small d q (d_re s) (d_im s) (q_re s) (q_im s)))
 
-pub errors-of-spec : {M : Type 1} → statement M
-errors-of-spec =
+pub errors_of_spec : {M : Type 1} → statement M
+errors_of_spec =
     tie.close
     (tie.spec
     error-squared-requires

@@ -15,44 +15,44 @@ first s = cast w32 s.args.x s.ranges.x
 abbrev second : tie.Start → Exp w64
 second s = cast w32 s.args.y s.ranges.y
 
-cast-size : tie.Need-overflow-cast-size
+cast-size : tie.Need-overflow_cast-x
 cast-size c = fits (first c) tt
 
-size-requires : tie.Need-size-requires
+size-requires : tie.Need-size-a-requires
 size-requires c κs = omega (arith, sized (first c) tt)
 
-cast-size-2 : tie.Need-overflow-cast-size-2
+cast-size-2 : tie.Need-overflow_cast-y
 cast-size-2 c = fits (second c.before) tt
 
-size-requires-2 : tie.Need-size-requires-2
+size-requires-2 : tie.Need-size-b-requires
 size-requires-2 c κs = omega (arith, sized (second c.before) tt)
 
 squared : (n : ℕ) → n ≤ 2 ^ 31 → n * n ≤ 2 ^ 62
 squared n h = mul-le-mul h h
 
-module _ (c : tie.After-size2) where
-  first_in : c.before.size.result * c.before.size.result ≤ 2 ^ 62
-  first_in = squared c.before.size.result (omega (arith, c.before.size.ensures, sized (first c.before.before) tt))
+module _ (c : tie.After-size-b) where
+  first_in : c.before.size-a.result * c.before.size-a.result ≤ 2 ^ 62
+  first_in = squared c.before.size-a.result (omega (arith, c.before.size-a.ensures, sized (first c.before.before) tt))
 
-  second_in : c.size2.result * c.size2.result ≤ 2 ^ 62
-  second_in = squared c.size2.result (omega (arith, c.size2.ensures, sized (second c.before.before) tt))
+  second_in : c.size-b.result * c.size-b.result ≤ 2 ^ 62
+  second_in = squared c.size-b.result (omega (arith, c.size-b.ensures, sized (second c.before.before) tt))
 
-mul-result : tie.Need-overflow-mul-result
+mul-result : tie.Need-overflow_mul-result
 mul-result c = record { fits = omega (arith, first_in c) }
 
-mul-result-2 : tie.Need-overflow-mul-result-2
+mul-result-2 : tie.Need-overflow_mul-result-2
 mul-result-2 c = record { fits = omega (arith, second_in c) }
 
-add-result : tie.Need-overflow-add-result
+add-result : tie.Need-overflow_add-result
 add-result c = record { fits = omega (arith, first_in c, second_in c) }
 
 returns : tie.Need-returns
 returns c =
     let s = c.before.before in
-    ap₂ (λ (m n : ℕ). m * m + n * n) (c.before.size.ensures ∙ ap nat_abs (at (first s) tt)) (c.size2.ensures ∙ ap nat_abs (at (second s) tt))
+    ap₂ (λ (m n : ℕ). m * m + n * n) (c.before.size-a.ensures ∙ ap nat_abs (at (first s) tt)) (c.size-b.ensures ∙ ap nat_abs (at (second s) tt))
 
-pub squares-of-spec : {M : Type 1} → statement M
-squares-of-spec =
+pub squares_of_spec : {M : Type 1} → statement M
+squares_of_spec =
     tie.close
     (tie.spec
     cast-size

@@ -1,0 +1,10 @@
+-- `either` is the choice: what is read back is the number. Assumes nothing.
+use Rattle.std.proofs.Common.{sym, ◌∙◌, to_z-of_z}
+use Rattle.ints.proofs.Cases.{when_true, when_false}
+use Rattle.model.proofs.angle.either.Goals as goal
+
+pub returns-then-test : goal.returns-then-test
+returns-then-test c = let s = c in to_z-of_z s.ranges.x ∙ sym (when_true s.args.test _ _ c.if-test.true)
+
+pub returns-else-test : goal.returns-else-test
+returns-else-test c = let s = c in to_z-of_z s.ranges.y ∙ sym (when_false s.args.test _ _ c.if-test.false)
