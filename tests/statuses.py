@@ -132,12 +132,12 @@ def writes():
 def first_use(kit, line):
     """The line of a first use, with a stand-in for the kit's `rt` among the tools where one is given."""
     lay = "printf '#!/bin/sh\\n%s\\n' >tools/rt && chmod +x tools/rt && " % kit if kit else ""
-    return lay + "rm -r target && PATH=$PWD/tools " + line
+    return lay + "rm -r crates/*/out && PATH=$PWD/tools " + line
 
 
 def builder(script, first):
     """A stand-in for the kit's `rt` that first does something and then builds the program."""
-    return "PATH=/usr/bin:/bin; %s; mkdir -p target/bin; cp program target/bin/%s" % (first, script.program)
+    return "PATH=/usr/bin:/bin; %s; mkdir -p out; cp ../../program out/%s" % (first, script.program)
 
 
 def builds():
@@ -146,7 +146,7 @@ def builds():
     yield Case(first_use(None, line), 2, said="the program cannot be built")
     yield Case(first_use("exit 1", line), 2, said="the program cannot be built")
     yield Case(first_use("exit 0", line), 2, said="No such file or directory")
-    yield Case(first_use(builder(MEASURE, "echo proved"), line), 0, SOUND, "proved")
+    yield Case(first_use(builder(MEASURE, "echo proved >&2"), line), 0, SOUND, "proved")
     # what the building reads is not the file, even where that is standard input
     yield Case(first_use(builder(MEASURE, "cat"), "./measure /dev/stdin < <(/bin/cat sound.phs)"), 0, SOUND)
     yield Case("PATH=$PWD/tools ./measure sound.phs", 0, SOUND)
@@ -154,10 +154,12 @@ def builds():
 
 def by_itself():
     """The program without the script ends with 0 and says what failed."""
-    yield Case("target/bin/listing <sound.phs >/dev/full", 0, said="listing: standard output: No space left on device")
-    yield Case("target/bin/listing <empty.phs >/dev/full", 0, said="listing: standard output: No space left on device")
-    yield Case("target/bin/listing <.", 0, said="listing: standard input: Is a directory")
-    yield Case("target/bin/listing <&-", 0, said="listing: standard input: Bad file descriptor")
+    program = "crates/listing/out/listing"
+    for name in ("sound", "empty"):
+        yield Case("%s <%s.phs >/dev/full" % (program, name), 0,
+                   said="listing: standard output: No space left on device")
+    yield Case("%s <." % program, 0, said="listing: standard input: Is a directory")
+    yield Case("%s <&-" % program, 0, said="listing: standard input: Bad file descriptor")
 
 
 def cut_texts():
@@ -262,7 +264,7 @@ def images_unread():
 def images_themselves():
     """2 where MENDED is the image itself, by whatever path or link."""
     itself = "is the image itself"
-    for name in ("image.bank", "./image.bank", "target/../image.bank", "$PWD/image.bank"):
+    for name in ("image.bank", "./image.bank", "crates/../image.bank", "$PWD/image.bank"):
         yield makes_none("./mend image.bank %s" % name, 2, itself)
         yield makes_none("./mend %s image.bank" % name, 2, itself)
     for link in ("ln -s image.bank other", "ln image.bank other", "ln -s image.bank link && ln -s link other"):
@@ -309,7 +311,9 @@ def mend_builds():
     yield makes_none(first_use(None, MEND_LINE), 2, "the program cannot be built")
     yield makes_none(first_use("exit 1", MEND_LINE), 2, "the program cannot be built")
     yield makes_none(first_use("exit 0", MEND_LINE), 2, "No such file or directory")
-    yield mends_it(first_use(builder(MEND, "echo proved"), MEND_LINE), said="proved\n" + FATES.decode())
+    # the run that the building ends with says nothing
+    yield mends_it(first_use(builder(MEND, "echo proved >&2; echo refused 1 >&2"), MEND_LINE),
+                   said="proved\n" + FATES.decode())
     yield mends_it(first_use(builder(MEND, "cat"), "./mend /dev/stdin mended.bank < <(/bin/cat image.bank)"))
     yield mends_it("PATH=$PWD/tools " + MEND_LINE)
 
@@ -383,7 +387,7 @@ def lay_out(folder, script, program, case):
     os.chmod(folder, 0o755)
     shutil.copy(os.path.join(ROOT, script.name), os.path.join(folder, script.name))
     shutil.copy(program, os.path.join(folder, "program"))
-    built = os.path.join(folder, "target", "bin", script.program)
+    built = os.path.join(folder, "crates", script.program, "out", script.program)
     os.makedirs(os.path.dirname(built))
     shutil.copy(program, built)
     if case.stand_in is not None:
@@ -412,7 +416,7 @@ def contents(folder):
     found = {}
     for at, folders, files in os.walk(folder):
         if at == folder:
-            folders[:] = sorted(set(folders) - {"target", "tools"})
+            folders[:] = sorted(set(folders) - {"crates", "tools"})
         for path in [os.path.join(at, name) for name in folders + files]:
             found[os.path.relpath(path, folder)] = content(path)
     return found
