@@ -26,6 +26,7 @@ pub enum Judged {
 }
 
 // Each error against its limit: meeting the limit is within.
+#[tactic(auto, unfolding(crate::specs::Judging::verdict_on))]
 fn verdict_on(errors: Errors, limits: Limits) -> Verdict
     requires { Small errors }
     ensures { result ≡ verdict_on errors limits }
