@@ -1,4 +1,3 @@
 -- The laws of `verdict`.
 mod Bounds
-mod Order
 pub mod Unique
