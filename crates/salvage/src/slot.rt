@@ -42,7 +42,7 @@ fn trim(slot: [u8; 256]) -> [u8; 256]
 {
     let filled = 11 + 6 * (slot[3] as usize);
     let mut bytes = free_slot();
-    bytes.copy_from_slice(&slot[0..filled]);
+    bytes[0..filled].copy_from_slice(&slot[0..filled]);
     bytes
 }
 
