@@ -2,12 +2,8 @@
 -- push leaves the slot as it was, and a taken one the slot of the stored feed. Assumes nothing.
 use mathlib.Core.Path.{◌≡◌, refl, sym, ◌∙◌, ap}
 use mathlib.Core.Bool.{Bool, true, false, cond}
-use mathlib.Core.List.{List, [], ◌∷◌, ◌++◌}
-use mathlib.Core.Logic.{inl, inr}
+use mathlib.Core.List.{List, ◌++◌}
 use Prim.Native.Nat.{ℕ, ◌+◌, ◌*◌, ◌≤◌}
-use native.Mathlib.Omega.{arith}
-use types.Run.{OneOf}
-use denote.Enum.Declared.{tag_of}
 use lib.Dec.{eqb}
 use lib.ListN.{length, drop}
 use Rattle.model.specs.declared.filter.Sample.{Sample}
@@ -21,7 +17,6 @@ use Rattle.feed.specs.History.{History, centre_of, is_due}
 use Rattle.feed.specs.Kept.{report_from, answered_from}
 use Rattle.feed.specs.Places.{place_of}
 use Rattle.feed.specs.Ring.{faulty, end_of_time_of, stored, history_of, Next, pushed, Pushing as FeedPushing}
-use Rattle.feed.specs.contracts.Answer.{the_type}
 use Rattle.bank.specs.Slot.{state_in, head_in, head_bytes, kept_bytes, feed_in, slot_of, with_slot}
 use Rattle.bank.specs.Damage.{is_free, stray, is_damaged}
 use Rattle.bank.specs.Calls.{Outcome, pushed_at}
@@ -48,9 +43,8 @@ left_answered h k before written = go (is_due h)
     go false = refl
 
 -- nor is one of the second or third variant, the `_` of the code's match
-pub left_taken : (a : Answer) (before written : List ℕ) → OneOf (1 ∷ 2 ∷ []) (tag_of the_type a) → left (said a) before written ≡ written
-left_taken (Refused number) before written (inl e) = absurd (omega arith)
-left_taken (Refused number) before written (inr e) = absurd (omega arith)
+pub left_taken : (a : Answer) (before written : List ℕ) → ((number : ℕ) → a ≡ Refused number → ⊥) → left (said a) before written ≡ written
+left_taken (Refused number) before written e = absurd (e number refl)
 left_taken Taken before written e = refl
 left_taken (Reported r) before written e = refl
 

@@ -44,7 +44,7 @@ fn put(to: &mut [u8], from: &[u8])
     requires { length to.old ≡ length from.now }
     ensures { to.new ≡ from.now }
 {
-    bytes::copy(from, to);
+    to.copy_from_slice(from);
 }
 
 // The numbers of an open slot, bytes 1 to 10.

@@ -4,5 +4,4 @@ mod Division
 pub mod OneByte
 pub mod Residue
 pub mod Apart
-mod Order
 pub mod Unique

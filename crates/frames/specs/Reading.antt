@@ -11,7 +11,7 @@ use Rattle.frames.specs.declared.bench.Tag.{Tag}
 use Rattle.frames.specs.declared.Frame.{Frame}
 use Rattle.frames.specs.declared.Frame.TheVariants.{Refused, Reads}
 
--- ---- the refusals; 6 is `sampling/noNominal`
+-- ---- the refusals; 6 is `sampling/no_nominal`
 
 -- 7: rate not served, 0 too
 abbrev pub no_rate : Configured → Refusal

@@ -12,6 +12,7 @@ fn after_byte(remainder: u16, byte: u8) -> u16
 }
 
 // The checksum of these bytes: initial FFFF, no final change.
+#[tactic(auto, unfolding(crate::specs::Checksum::checksum))]
 pub(crate) fn checksum_of(bytes: &[u8]) -> u16
     ensures { result ≡ checksum bytes.now }
 {

@@ -25,6 +25,7 @@ pub enum Frame {
 }
 
 // Reads a frame: refused 6, 7 (rate 0 too), 36, 18, 19, 20, 21, 22, 23, 24.
+#[tactic(auto, unfolding(crate::specs::Reading::reading))]
 pub fn read_frame(frame: &[u8], configured: Configured, tag: Tag) -> Frame
     ensures { Reading frame.now configured tag result }
 {

@@ -5,6 +5,7 @@ ghost use Rattle.frames.specs.Tags.{apart, agrees};
 use crate::bench::{Configured, Tag};
 
 // By how much two numbers differ.
+#[tactic(auto, using(crate::proofs::Apart::apart_is))]
 fn apart(a: u64, b: u64) -> u64
     ensures { result ≡ apart a b }
 {
@@ -12,6 +13,7 @@ fn apart(a: u64, b: u64) -> u64
 }
 
 // SOC is equal, and FRACSEC × rate differs from frame × TIME_BASE by less than rate.
+#[tactic(auto, unfolding(crate::specs::Tags::agrees))]
 pub(crate) fn agrees(soc: u32, fracsec: u32, configured: Configured, tag: Tag) -> bool
     ensures { result ≡ agrees soc fracsec configured tag }
 {

@@ -5,7 +5,7 @@ use mathlib.Core.List.{List, ◌++◌}
 use Prim.Native.Nat.{ℕ, ◌+◌, ◌-◌, ◌*◌, ◌≤◌, ◌<◌}
 use native.Mathlib.Omega.{arith}
 use lib.ListN.{length, get_or, take, drop, length-append, get_or-append}
-use lib.Seq.{take_at, drop_at, take-length, take-append-le, take-take, get_or-take, drop-drop, length-take-le}
+use lib.Seq.{take_at, drop_at, take-append-le, take-take, get_or-take, drop-drop, length-take-le}
 use Rattle.feed.specs.Places.{zeros}
 use Rattle.feed.specs.Ring.{faulty, next_number_of, history_of}
 use Rattle.feed.proofs.Sound.{sound}
@@ -21,9 +21,9 @@ use Rattle.salvage.specs.Slots.{filled_to, trimmed}
 use Rattle.salvage.proofs.Fates.{stray_held}
 
 -- bytes copied over a free slot stand before zeros
-pub over_free : (l f : List ℕ) (n : ℕ) → length l ≡ n → n ≤ 256 → f ≡ free_slot → take (length l) l ++ drop (length l) f ≡ l ++ zeros (256 - n)
+pub over_free : (l f : List ℕ) (n : ℕ) → n ≤ 256 → f ≡ free_slot → l ++ drop n f ≡ l ++ zeros (256 - n)
 unfolding free_slot
-over_free l f n size h e = rw (take-length l, size, e, zeros_rest n (256 - n) 256 (omega arith))
+over_free l f n h e = rw (e, zeros_rest n (256 - n) 256 (omega arith))
 
 -- ---- a trimmed slot
 

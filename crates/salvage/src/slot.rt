@@ -20,7 +20,7 @@ fn read(slot: &[u8]) -> [u8; 256]
     ensures { result ≡ slot.now }
 {
     let mut bytes = free_slot();
-    bytes::copy(slot, &mut bytes);
+    bytes.copy_from_slice(slot);
     bytes
 }
 
@@ -42,7 +42,7 @@ fn trim(slot: [u8; 256]) -> [u8; 256]
 {
     let filled = 11 + 6 * (slot[3] as usize);
     let mut bytes = free_slot();
-    bytes::copy(&slot[0..filled], &mut bytes);
+    bytes[0..filled].copy_from_slice(&slot[0..filled]);
     bytes
 }
 
@@ -87,7 +87,7 @@ pub(crate) fn mend_slot(slot: &mut [u8]) -> MendedSlot
     let before = read(slot);
     let damage = damage_of(before);
     let after = left_by(damage, before);
-    bytes::copy(&after, slot);
+    slot.copy_from_slice(&after);
     let differing = count(&before, &after);
     let fate = fate_by(damage, differing != 0);
     MendedSlot { fate, differing }

@@ -1,6 +1,6 @@
 -- Products of the comparison stay within 64 bits at the extremes of every type: bounds on squares. Assumes nothing.
-use Prim.Native.Nat.{ℕ, ◌+◌, ◌*◌, ◌^◌, ◌≤◌, ◌<◌}
-use native.Mathlib.Nat.{add-le-add, mul-le-mul, le_trans, le_of_lt}
+use Prim.Native.Nat.{ℕ, ◌+◌, ◌*◌, ◌≤◌}
+use native.Mathlib.Nat.{add-le-add, mul-le-mul, le_trans}
 use native.Mathlib.Omega.{arith}
 use lib.Signed.{nat_abs-le}
 use lib.IntN.{ℤ, nat_abs, ◌-ℤ◌}
@@ -27,10 +27,3 @@ errors_small d q dr di qr qi =
     let m : squares q.re q.im ≤ 32768 * 32768 + 32768 * 32768 =
     squares_within 32768 q.re q.im (nat_abs-le q.re qr.sfits) (nat_abs-le q.im qi.sfits) in
     record { error_in = le_trans v (omega arith); reference_in = le_trans m (omega arith) }
-
--- p² and p²·(re² + im²), for p of 8 bits
-pub percent_squared_lem : (p : ℕ) → p < 2 ^ 8 → p * p ≤ 2 ^ 16
-percent_squared_lem p h = mul-le-mul (le_of_lt h) (le_of_lt h)
-
-pub allowed_within : (p m : ℕ) → p < 2 ^ 8 → m ≤ 2 ^ 41 → p * p * m ≤ 2 ^ 57
-allowed_within p m h k = mul-le-mul (percent_squared_lem p h) k

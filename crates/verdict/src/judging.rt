@@ -26,6 +26,7 @@ pub enum Judged {
 }
 
 // Each error against its limit: meeting the limit is within.
+#[tactic(auto, unfolding(crate::specs::Judging::verdict_on))]
 fn verdict_on(errors: Errors, limits: Limits) -> Verdict
     requires { Small errors }
     ensures { result ≡ verdict_on errors limits }
@@ -55,6 +56,7 @@ fn left_out(test: u8, m: i32) -> bool
 }
 
 // The judging of one device report: refusals 10, 11, 9, then "left out", then the three verdicts.
+#[tactic(auto, unfolding(crate::specs::Judging::judgement))]
 pub fn judge(class: u8, test: u8, m: i32, device: Device, reference: Reference) -> Judged
     ensures { Judging class test m device reference result }
 {
