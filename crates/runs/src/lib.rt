@@ -52,6 +52,7 @@ fn window_from(a: &[i16], b: &[i16], c: &[i16], first: usize) -> [i16; 93]
 }
 
 // The figures at a centre of three runs, the first sample being index 0; refused 6, 16, 17.
+#[tactic(auto, unfolding(crate::specs::Runs::measured))]
 pub fn measure(a: &[i16], b: &[i16], c: &[i16], centre: usize, nominal: u8) -> Measured
     ensures { RunMeasuring a.now b.now c.now centre nominal result }
 {
