@@ -8,7 +8,7 @@ use Rattle.feed.specs.declared.Report.{Report}
 use Rattle.feed.specs.Answers.{said}
 use Rattle.bank.specs.declared.Settled.{Settled}
 use Rattle.bank.specs.declared.Settled.TheVariants.{Done, Refused as NotOpened}
-use Rattle.bank.specs.Calls.{Outcome, settled, opened_at, Clearing, Opening}
+use Rattle.bank.specs.Calls.{Outcome, settled}
 use Rattle.phs.specs.declared.Stage.TheVariants.{InSamples, Over}
 use Rattle.phs.specs.declared.feeding.Led.{Led}
 use Rattle.header.specs.Header.{opens, Said as HeaderSaid, refused as refused_header}
@@ -51,11 +51,6 @@ module _ (reports samples : ℕ) (o : Outcome) (a : Answer) {bank : List ℕ} (p
   sample_reported e p q w = led_as (answer_is e) (record { step = record { reader = λ i. reader_at InSamples (p i) (q i); bank = refl; text = w } })
 
 -- ---- a header
-
--- a clearing, and an opening after it
-pub opened_after : (bank b after : List ℕ) (r a : Settled) (nominal rate soc : ℕ) → Clearing bank r b → Opening b 0 nominal rate soc a after
-    → record { answer = settled a; bank = after } ≡ opened_in bank nominal rate soc
-opened_after bank b after r a nominal rate soc p q = q ∙ ap (λ (x : Outcome). opened_at x.bank 0 nominal rate soc) p
 
 -- the first line
 module _ (version nominal rate : ℕ) (a : Settled) {out out' : List ℕ} {at : ℕ} where

@@ -29,7 +29,7 @@ pub enum Stage {
 }
 
 // What is kept between two parts of a file.
-#[derive(Drop)]
+#[derive(Clone, Copy)]
 pub struct Reader {
     pub stage: Stage,
     // how many bytes of an unfinished header or sample are kept
@@ -114,7 +114,7 @@ fn advance(r: Reader, bank: &mut [u8], part: &[u8], i: usize, out: &mut [u8], at
     ensures onward { Onward part.now
         (record { reader = r; bank = bank.old; out = out.old; read = i; written = at })
         (record { reader = result.reader; bank = bank.new; out = out.new; read = result.read; written = result.written }) }
-    ensures i_lt_read { i < result.read }
+    ensures read_grows { i < result.read }
 {
     if begins_sample(r, part.len() - i) {
         let led = Led {
@@ -134,7 +134,7 @@ fn take_samples(t: Led, bank: &mut [u8], part: &[u8], from: usize, out: &mut [u8
     ensures onward { Onward part.now
         (record { reader = (step_of t).reader; bank = bank.old; out = out.old; read = from; written = t.at })
         (record { reader = result.reader; bank = bank.new; out = out.new; read = result.read; written = result.written }) }
-    ensures from_lt_read { from < result.read }
+    ensures read_grows { from < result.read }
 {
     let mut led = t;
     let mut i = from;
