@@ -3,7 +3,7 @@
 use mathlib.Core.Path.{◌≡◌, refl, sym, ap, ◌∙◌}
 use mathlib.Core.Bool.{true, false, cond}
 use mathlib.Core.List.{List, [], ◌∷◌}
-use Prim.Native.Nat.{ℕ, ◌+◌, ◌≤◌}
+use Prim.Native.Nat.{ℕ, ◌≤◌}
 use native.Mathlib.Omega.{arith}
 use borrow.Author.Tests.{eq-eqb, eqb-true, ne_eqb, ltb-false, not-false}
 use lib.Dec.{eqb}
@@ -17,7 +17,7 @@ use Rattle.feed.specs.declared.Answer.TheVariants.{Reported}
 use Rattle.feed.specs.declared.Report.{Report}
 use Rattle.sampling.specs.Tags.{nominal_of}
 use Rattle.feed.specs.Answers.{Said, refused as refused_with, said_report, said}
-use Rattle.feed.specs.History.{History, centre_of, is_due, told}
+use Rattle.feed.specs.History.{told}
 use Rattle.feed.specs.Ring.{history_of}
 use Rattle.bank.specs.Slot.{slot_at, state_in, feed_in}
 use Rattle.bank.specs.Damage.{is_free, is_open, is_damaged}

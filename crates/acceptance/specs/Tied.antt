@@ -1,8 +1,8 @@
 -- Every public function of every library, by its own contract: it asks nothing, it says the relation that the conditions and the promises
 -- speak of, and it admits one outcome. `lister::list`, which reads and writes, is the exception.
 -- `Pre κs a` is what the function's `requires` asks of the arguments a; `Post κs a r s` is what its `ensures` says of them, of the answer r
--- and of the arguments when it ends, s. κs are the lifetimes; a.0, a.1.0, a.1.1.0 are the arguments in their order; `now a.0` are
--- lent bytes or numbers before the call, `now s.0` when it ends.
+-- and of the arguments when it ends, s. κs are the lifetimes; a.0, a.1.0, a.1.1.0 are the arguments in their order; `a.0.now` are
+-- lent bytes or numbers before the call, `s.0.now` when it ends.
 use Rattle.std.specs.Prelude.{◌≡◌, List, ℕ, ◌*◌, length}
 use Rattle.bits.specs.Bits.{be16, be32, signed16, signed32}
 use Rattle.sampling.specs.Sampling.{sampling}

@@ -1,4 +1,4 @@
--- Document 01, "The bank", with CR 6: 4096 bytes, 16 slots of 256, and what stands where in a slot. `..In` reads a slot's
+-- Document 01, "The bank", with CR 6: 4096 bytes, 16 slots of 256, and what stands where in a slot. `.._in` reads a slot's
 -- bytes; `head_bytes`, `kept_bytes`, `tail_of` and `slot_of` make them, and `with_kept` and `worked_out_in` make a slot of a slot.
 use Rattle.std.specs.Prelude.{◌≡◌, cond, List, [], ◌∷◌, ◌++◌, ℕ, ◌+◌, ◌*◌, eqb, get_or, take, drop}
 use Rattle.model.specs.declared.angle.Phase.{Phase}

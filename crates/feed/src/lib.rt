@@ -32,7 +32,7 @@ pub struct Head {
 
 // A feed: its head, and thirty-one places of six bytes: a, b and c of a sample, two bytes each, big-endian.
 // With them the phases at its three newest centres, the oldest first (CR 6).
-#[derive(Drop)]
+#[derive(Clone, Copy)]
 pub struct Feed {
     pub head: Head,
     pub places: [u8; 186],
@@ -67,7 +67,7 @@ pub enum Answer {
 }
 
 // The next feed, beside the answer.
-#[derive(Drop)]
+#[derive(Clone, Copy)]
 pub struct Pushed {
     pub feed: Feed,
     pub answer: Answer,

@@ -41,7 +41,7 @@ pub struct Reader {
 }
 
 // The next reader, how much of the part is read, and how much text is written.
-#[derive(Drop)]
+#[derive(Clone, Copy)]
 pub struct Moved {
     pub reader: Reader,
     pub read: usize,

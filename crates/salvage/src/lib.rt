@@ -35,7 +35,7 @@ pub enum Ending {
 }
 
 // How a salvage ends, and what is said of the sixteen slots, in their order: of a refused one, sound, 0, sixteen times.
-#[derive(Drop)]
+#[derive(Clone, Copy)]
 pub struct Salvaged {
     pub ending: Ending,
     pub slots: [MendedSlot; 16],

@@ -43,7 +43,7 @@ abbrev pub spacing : ℕ → ℕ → ℕ
 spacing nominal rate = sampling_of nominal / rate
 
 -- Sample index 0 of a second falls on the UTC second: samples are numbered from index 0 of SOC 0, and number n has this SOC.
--- The sampling is a multiple of 15, so a number meets the same table entries as its index: `model/figures-same`.
+-- The sampling is a multiple of 15, so a number meets the same table entries as its index: `model/figures_same`.
 abbrev pub soc_of : ℕ → ℕ → ℕ
 soc_of nominal n = n / sampling_of nominal
 

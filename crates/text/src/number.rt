@@ -1,13 +1,13 @@
 // Numbers as digits, each put from `at` on where there is room.
 ghost use Rattle.std.specs.Prelude.{◌≡◌, ◌+◌, ◌≤◌, ◌<◌, length};
 ghost use Rattle.std.proofs.lemmas.List.Edits.{sets};
-ghost use Rattle.text.specs.Text.{digits, decimal, signed, hex16, glyph as Text·glyph};
+ghost use Rattle.text.specs.Text.{digits, decimal, signed, hex16, glyph as text_glyph};
 ghost use Rattle.text.specs.Put.{Wrote};
 
 // A digit: `0` to `9`, then `a` to `f`.
 fn glyph(d: u64) -> u8
     requires { d < 16 }
-    ensures { result ≡ Text·glyph d }
+    ensures { result ≡ text_glyph d }
 {
     if d < 10 { 48 + d as u8 } else { 87 + d as u8 }
 }
