@@ -9,7 +9,7 @@ ghost use Rattle.lister.specs.Inside.{Moved, state_after, Gives, Comes};
 
 use phs::{Reader, Stage};
 use reads::Brought;
-use std::io::{ErrorKind, Read, Write};
+use std::io::{Read, Write};
 
 // The room that any line has enough of.
 const LINE: usize = 256;
@@ -111,21 +111,14 @@ fn read_some<R: Read, W: Write>(
     take(r, bank, input, got, out, to)
 }
 
-// The count of one read: -1 where it fails. One that a signal interrupts is made again.
+// The count of one read: -1 where it fails.
 fn read<R: Read>(from: &mut R, input: &mut [u8]) -> isize
     ensures { Moved (length input.new) result }
 {
-    for _ in 0..u64::MAX {
-        match from.read(input) {
-            Ok(n) => return n as isize,
-            Err(e) => {
-                if e.kind() != ErrorKind::Interrupted {
-                    return -1;
-                }
-            }
-        }
+    match from.read(input) {
+        Ok(n) => n as isize,
+        Err(_) => -1,
     }
-    -1
 }
 
 // What a read brought, by the count that it answered.
@@ -173,14 +166,15 @@ fn give<W: Write>(r: Reader, bank: &mut [u8], part: &[u8], out: &mut [u8], to: &
         }
         i += m.read;
     }
-    let state = state_of(reader.stage);
+    let state = state_of(reader);
     Turn { reader, state }
 }
 
 // After a refusal no more is read.
-fn state_of(stage: Stage) -> State
-    ensures { result ≡ state_after stage }
+fn state_of(r: Reader) -> State
+    ensures { result ≡ state_after r.stage }
 {
+    let stage = r.stage;
     match stage {
         Stage::InHeader => State::Going,
         Stage::InSamples => State::Going,

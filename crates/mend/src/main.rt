@@ -7,7 +7,7 @@ ghost use Rattle.std.specs.Io.{ReadsAtMost};
 use reads::Brought;
 use salvage::{Ending, Fate, MendedSlot};
 use std::io;
-use std::io::{ErrorKind, Read};
+use std::io::Read;
 use text::Word;
 
 // How many bytes an image has.
@@ -28,23 +28,12 @@ fn up_to(n: usize, most: usize) -> usize
     if n < most { n } else { most }
 }
 
-// One read of standard input. One that a signal interrupts is made again.
+// One read of standard input.
 fn read(rt: &HostRuntime, room: &mut [u8]) -> io::Result<usize>
     ensures { ReadsAtMost result room.new }
 {
     let mut from = rt.stdin();
-    for _ in 0..u64::MAX {
-        let got = from.read(room);
-        match got {
-            Ok(_) => return got,
-            Err(e) => {
-                if e.kind() != ErrorKind::Interrupted {
-                    return got;
-                }
-            }
-        }
-    }
-    Err(io::Error::from(ErrorKind::Interrupted))
+    from.read(room)
 }
 
 // The count of a read: -1 where it failed.

@@ -11,7 +11,7 @@ ghost use Rattle.std.specs.Io.{ReadsAtMost};
 use reads::Brought;
 use script::{byte_at, length_of};
 use std::io;
-use std::io::{ErrorKind, Read};
+use std::io::Read;
 
 // Room for the line of any answer, the 1024 of the contracts.
 const LINE: usize = 1024;
@@ -63,23 +63,12 @@ fn write(rt: &HostRuntime, text: &[u8]) -> bool {
     }
 }
 
-// One read of standard input. One that a signal interrupts is made again.
+// One read of standard input.
 fn read(rt: &HostRuntime, room: &mut [u8]) -> io::Result<usize>
     ensures { ReadsAtMost result room.new }
 {
     let mut from = rt.stdin();
-    for _ in 0..u64::MAX {
-        let got = from.read(room);
-        match got {
-            Ok(_) => return got,
-            Err(e) => {
-                if e.kind() != ErrorKind::Interrupted {
-                    return got;
-                }
-            }
-        }
-    }
-    Err(io::Error::from(ErrorKind::Interrupted))
+    from.read(room)
 }
 
 // The count of a read: -1 where it failed.
