@@ -90,6 +90,7 @@ pub fn finish(r: Reader, out: &mut [u8]) -> usize
 }
 
 // The last line, where there is room.
+#[tactic(auto, unfolding(crate::specs::Stream::last))]
 fn put_end(r: Reader, out: &mut [u8]) -> usize
     requires { line_room ≤ length out.old }
     ensures { Wrote line_room (last r) out.old 0 result out.new }
