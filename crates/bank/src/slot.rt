@@ -198,6 +198,7 @@ pub(crate) fn put_back(s: &mut [u8], place: u8, h: Head, x: Sample, kept: Phases
 
 // An open slot with its kept phases worked out from the samples that it holds (CR 6), or with those that it keeps where its numbers are faulty; any
 // other slot stays as it is.
+#[tactic(auto, unfolding(crate::specs::Slot::worked_out_in))]
 pub fn worked_out(slot: [u8; 256]) -> [u8; 256]
     ensures { result ≡ worked_out_in slot }
 {

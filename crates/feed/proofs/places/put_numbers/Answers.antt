@@ -19,19 +19,10 @@ use Rattle.feed.proofs.places.put_numbers.Goals as goal
 pub loop-i-init : goal.loop-i-init
 loop-i-init c = (omega arith, refl, refl, below_none _)
 
-pub signed_at-requires : goal.signed_at-requires
-signed_at-requires c = omega arith
-
-pub signed_at-requires-in-loop-i : goal.signed_at-requires-in-loop-i
-signed_at-requires-in-loop-i c = omega arith
-
 pub bounds-numbers-i-in-loop-i : goal.bounds-numbers-i-in-loop-i
 bounds-numbers-i-in-loop-i c =
     let l = c.loop-i in
     Below-set ℤ l.numbers (l.i + 1) l.i _ (omega (arith, l.invariant.2))
-
-pub signed_at-requires-in-loop-i-2 : goal.signed_at-requires-in-loop-i-2
-signed_at-requires-in-loop-i-2 c = omega arith
 
 pub bounds-numbers-i-in-loop-i-2 : goal.bounds-numbers-i-in-loop-i-2
 bounds-numbers-i-in-loop-i-2 c =
