@@ -1,10 +1,12 @@
 -- The damage of a slot, by its kinds: none, only stray bytes, other. Assumes nothing.
-use mathlib.Core.Path.{◌≡◌, refl, ap}
+use mathlib.Core.Path.{◌≡◌, refl, sym, ap, ◌∙◌}
 use mathlib.Core.Bool.{Bool, true, false, cond}
 use mathlib.Core.List.{List}
 use Prim.Native.Nat.{ℕ, ◌≤◌}
 use native.Mathlib.Omega.{arith}
+use lib.ListN.{get_or}
 use Rattle.feed.proofs.Sound.{sound}
+use Rattle.bank.specs.declared.damage.Damage.{Damage}
 use Rattle.bank.specs.declared.damage.Damage.TheVariants.{None, Stray, Other}
 use Rattle.bank.specs.Slot.{head_in}
 use Rattle.bank.specs.Damage.{is_damaged, only_stray, damage_of}
@@ -34,3 +36,8 @@ stray_only s = go (is_damaged s) (only_stray s)
 
 pub stray_held : (s : List ℕ) → only_stray s ≡ true → (head_in s).held ≤ 31
 stray_held s e = (sound (head_in s) (only_stray_lem s e).faultless).held
+
+-- so where a slot is damaged by stray bytes alone, its places are filled to within its room
+pub held_if_stray : (s : List ℕ) (damage : Damage) → damage ≡ damage_of s → damage ≡ Stray → get_or s 3 0 ≤ 31
+unfolding head_in
+held_if_stray s damage e d = stray_held s (stray_only s (sym e ∙ d))

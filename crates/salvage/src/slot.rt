@@ -47,6 +47,7 @@ fn trim(slot: [u8; 256]) -> [u8; 256]
 }
 
 // What a slot so damaged is left with: where it is not closed, its angles are worked out.
+#[tactic(auto, unfolding(crate::specs::Slots::left_by), using(crate::proofs::Fates::held_if_stray))]
 fn left_by(damage: Damage, slot: [u8; 256]) -> [u8; 256]
     requires { damage ≡ damage_of slot }
     ensures { result ≡ left_by damage slot }
