@@ -1,4 +1,7 @@
 -- `list`'s own contract asks nothing, and says what `Lists` says, whatever the types of its reader and its writer are. Assumes nothing.
+use mathlib.Core.Path.{◌≡◌, sym, subst}
+use mathlib.Core.List.{[], not-mem-nil}
+use base.Fml.{Lft}
 use contract.BorrowLft.{◌⊑◌}
 use contract.Lifetimes.{Lfts}
 use denote.RattleType.{RattleType}
@@ -15,6 +18,14 @@ module _ (R W : RattleType) (R-laws : Laws R) (W-laws : Laws W) (R-reads : Reade
   pub list_asks_nothing : (κs : Lfts 7) (a : _) → κs.1.1.1.1.1.0 ⊑ R.lives → κs.1.1.1.1.1.1.0 ⊑ W.lives
       → listReads.Pre R W R-laws W-laws R-reads R-code W-writes W-code κs a
   list_asks_nothing κs a p q = (p, q)
+
+  -- so where the reader and the writer borrow nothing, as those of the programs, there is no premise
+  pub owned_asks_nothing : R.lives ≡ [] → W.lives ≡ [] → (κs : Lfts 7) (a : _) → listReads.Pre R W R-laws W-laws R-reads R-code W-writes W-code κs a
+  owned_asks_nothing r w κs a = list_asks_nothing κs a (longest r) (longest w)
+    where
+      -- what is borrowed for no lifetime outlives every lifetime
+      longest : {κ κ' : Lft} → κ' ≡ [] → κ ⊑ κ'
+      longest {κ} e = subst (λ (l : Lft). κ ⊑ l) (sym e) (λ a m. absurd (not-mem-nil m))
 
   pub list_says : (κs : _) (a : _) (r : _) (s : _) → listReads.Post R W R-laws W-laws R-reads R-code W-writes W-code κs a r s
       → Lists a.0.now a.1.0.now a.1.1.0.now r s.0.now s.1.0.now s.1.1.0.now
