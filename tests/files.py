@@ -274,7 +274,7 @@ def example_files():
 # `listings` lists each file once with each pair: the bytes of its input buffer and of its output buffer
 BUFFERS = ((65536, 65536), (7, 256), (65536, 256))
 
-# then, each by a word: no file to read; no descriptor to write a refusal to, or the last line; no byte of input; an output of 255 bytes
+# then, each by a word: no file to read; no place to write a refusal or the last line to; no byte of input; an output of 255 bytes
 ENDINGS = (b"unread\n", b"unwritten\n", b"unwritten\n", b"no room\n", b"no room\n")
 
 
