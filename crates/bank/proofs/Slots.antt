@@ -1,13 +1,13 @@
 -- Slots of a bank of 4096 bytes: a slot that is put in is there, the others are as they were, and the length stays. By cutting the bank at the slot's two ends. Assumes nothing.
 use mathlib.Core.Path.{◌≡◌, refl, sym, ◌∙◌, ap}
 use mathlib.Core.Bool.{Bool, true, false}
-use mathlib.Core.List.{List, [], ◌∷◌, ◌++◌, append-nil}
+use mathlib.Core.List.{List, [], ◌∷◌, ◌++◌}
 use Prim.Native.Nat.{ℕ, zero, suc, ◌+◌, ◌-◌, ◌*◌, ◌≤◌, ◌<◌}
-use native.Mathlib.Nat.{zero-add, suc-add, add-sub_cancel_left, le_of_eq}
+use native.Mathlib.Nat.{zero-add, suc-add, add-sub_cancel_left}
 use native.Mathlib.Omega.{arith}
 use lib.Dec.{ltb}
-use lib.ListN.{length, take, drop, length-drop, length-append, take-append-drop, drop_of_length-le}
-use lib.Seq.{take-nil, take-length, take_at, drop_at, take-append-le, drop-append-le, take-take, drop-drop, length-take-le}
+use lib.ListN.{length, take, drop, length-drop, length-append, take-append-drop}
+use lib.Seq.{take-nil, take_at, drop_at, take-append-le, drop-append-le, take-take, drop-drop, length-take-le}
 use borrow.Author.Tests.{ltb-true, ltb-false}
 use borrow.Rule.Slice.PartMut.{put_mid}
 use Rattle.bank.specs.Slot.{slot_at, with_slot}
@@ -16,10 +16,6 @@ pub drop_take : (n m : ℕ) (l : List ℕ) → drop n (take (n + m) l) ≡ take 
 drop_take zero m l = rw zero-add
 drop_take (suc n) m [] = rw (suc-add n m) (sym (take-nil m))
 drop_take (suc n) m (x ∷ l) = rw (suc-add n m) (drop_take n m l)
-
--- all of one list over another that is as long is that list
-pub all_over : (from to : List ℕ) → length to ≡ length from → take (length from) from ++ drop (length from) to ≡ from
-all_over from to e = rw (take-length from, drop_of_length-le to (le_of_eq e)) (append-nil from)
 
 -- a slot put back as it was leaves the bank as it was
 pub put_back : (bank : List ℕ) (k : ℕ) → with_slot bank k (slot_at bank k) ≡ bank

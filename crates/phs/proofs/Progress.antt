@@ -1,11 +1,10 @@
 -- What a caller needs: a call reads no more than its part, and with room for a line at least one byte of a part that has one; its text lies in
 -- the buffer. Assumes nothing.
-use Rattle.std.proofs.Common.{◌≡◌, ℕ, ◌-◌, ◌≤◌, Bool, true, false, cond, ltb, List, [], ◌∷◌, length, take, sym, ap, ◌∙◌, arith, length-take-le}
-use lib.Seq.{length-sets}
+use Rattle.std.proofs.Common.{◌≡◌, ℕ, ◌-◌, ◌≤◌, Bool, true, false, cond, ltb, List, [], ◌∷◌, length, ap, arith}
 use Rattle.phs.specs.declared.Reader.{Reader}
 use Rattle.phs.specs.declared.Moved.{Moved}
 use Rattle.phs.specs.Lines.{line_room}
-use Rattle.phs.specs.Stream.{Left, after_byte, Fed, unread, onto, fed, Read, outcome, Reading, last_with, Finishing}
+use Rattle.phs.specs.Stream.{Left, after_byte, Fed, unread, onto, fed, Read, outcome, Reading}
 use Rattle.phs.proofs.Room.{takes_byte}
 
 pub reads_some : (r : Reader) (bank part out : List ℕ) (m : Moved) (bank' out' : List ℕ) → Reading r bank part out m bank' out'
@@ -35,17 +34,3 @@ unfolding outcome
 reads_within r bank part out m bank' out' p =
     let read : m.read ≡ (fed (length out) r bank part).read = ap (λ (x : Read). x.moved.read) p.ends in
     omega (arith, read, fed_within (length out) r bank part)
-
--- as many bytes as the call says are written stand at the buffer's start
-pub written_length : (r : Reader) (bank part out : List ℕ) (m : Moved) (bank' out' : List ℕ) → Reading r bank part out m bank' out' → m.written ≡ length (take m.written out')
-unfolding outcome
-written_length r bank part out m bank' out' p =
-    let text = (fed (length out) r bank part).text in
-    let same : length out' ≡ length out = ap (λ (x : Read). length x.out) p.ends ∙ length-sets out 0 text in
-    sym (length-take-le m.written out' (omega (arith, p.fits)))
-
-pub last_length : (r : Reader) (out : List ℕ) (n : ℕ) (out' : List ℕ) → Finishing r out n out' → n ≡ length (take n out')
-last_length r out n out' p =
-    let text = last_with (length out) r in
-    let same : length out' ≡ length out = ap (λ (x : ℕ × List ℕ). length x.1) p.ends ∙ length-sets out 0 text in
-    sym (length-take-le n out' (omega (arith, p.fits)))

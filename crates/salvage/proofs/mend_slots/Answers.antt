@@ -22,6 +22,5 @@ loop-k-preserved c =
 pub returns : goal.returns
 returns c =
     let l = c.loop-k in
-    let start = c in
     let all : l.k ≡ 16 = omega arith in
-    (all_told all start.requires l.invariant.1, all_mended all start.requires l.invariant.1)
+    (all_told all c.requires l.invariant.1, all_mended all c.requires l.invariant.1)

@@ -30,8 +30,7 @@ pub returns : goal.returns
 unfolding closed_at free_slot
 returns c =
     λ bank slot l.
-    let start = c in
-    let free = c.zero.ensures ∙ ap zeros start.requires in
+    let free = c.zero.ensures ∙ ap zeros c.requires in
     (λ i. record { answer = done; bank = with_slot bank slot (free i) })
     ∙ sym (
     inside l _ _ _

@@ -10,11 +10,9 @@ use Rattle.bank.proofs.damage.is_stray.Goals as goal
 pub returns : goal.returns
 unfolding stray flag_over head_in
 returns c =
-    let b = c in
-    let from = b.unfilled_from-from in
-    let start = b in
-    let s = start.args.s.now in
-    let scan = ap (λ (n : ℕ). take (197 - n) (drop n s)) from.ensures.0 ∙ unfilled_scan s start.requires (get_or s 3 0) in
-    let first = b.is_blank-unfilled.ensures ∙ ap blank scan in
-    let rest = b.is_blank-rest.ensures ∙ ap blank (tail_scan s start.requires) in
+    let from = c.unfilled_from-from in
+    let s = c.args.s.now in
+    let scan = ap (λ (n : ℕ). take (197 - n) (drop n s)) from.ensures.0 ∙ unfilled_scan s c.requires (get_or s 3 0) in
+    let first = c.is_blank-unfilled.ensures ∙ ap blank scan in
+    let rest = c.is_blank-rest.ensures ∙ ap blank (tail_scan s c.requires) in
     rw (first, rest)

@@ -11,16 +11,14 @@ returns-then-is_faulty c = stays_faulty c.args.self (sym c.is_faulty.ensures ∙
 
 pub window_from-window-requires : goal.window_from-window-requires
 window_from-window-requires c =
-    let b = c in
-    let f = b.args.self in
+    let f = c.args.self in
     let l : length f.places ≡ 186 = search rules in
-    (l, (sound f.head (sym b.is_faulty.ensures ∙ b.if-is_faulty.false)).place)
+    (l, (sound f.head (sym c.is_faulty.ensures ∙ c.if-is_faulty.false)).place)
 
 pub held_phases-next-requires : goal.held_phases-next-requires
-held_phases-next-requires c = let b = c in sym b.is_faulty.ensures ∙ b.if-is_faulty.false
+held_phases-next-requires c = sym c.is_faulty.ensures ∙ c.if-is_faulty.false
 
 pub returns : goal.returns
 returns c =
-    let b = c in
     let w = c.window_from-window.ensures in
-    works_out b.args.self (sym b.is_faulty.ensures ∙ b.if-is_faulty.false) _ w _ c.held_phases-next.ensures
+    works_out c.args.self (sym c.is_faulty.ensures ∙ c.if-is_faulty.false) _ w _ c.held_phases-next.ensures

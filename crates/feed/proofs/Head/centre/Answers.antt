@@ -6,22 +6,18 @@ use Rattle.feed.proofs.Head.centre.Goals as goal
 
 pub returns-then-self-ge15 : goal.returns-then-self-ge15
 returns-then-self-ge15 c =
-    let start = c in
-    same_second start.args.self (sound start.args.self start.requires.sound) start.requires.enough c.if-self-ge15.true
+    same_second c.args.self (sound c.args.self c.requires.sound) c.requires.enough c.if-self-ge15.true
 
 pub overflow_sub-result-2 : goal.overflow_sub-result-2
 overflow_sub-result-2 c =
-    let start = c in
-    let l = later start.args.self (sound start.args.self start.requires.sound) start.requires.enough c.if-self-ge15.false in
+    let l = later c.args.self (sound c.args.self c.requires.sound) c.requires.enough c.if-self-ge15.false in
     omega arith
 
 pub overflow_sub-result-3 : goal.overflow_sub-result-3
 overflow_sub-result-3 c =
-    let start = c in
-    omega (arith, c.sampling.ensures, (sound start.args.self start.requires.sound).rated.low)
+    omega (arith, c.sampling.ensures, (sound c.args.self c.requires.sound).rated.low)
 
 pub returns : goal.returns
 returns c =
-    let start = c in
     rw c.sampling.ensures
-    (second_before start.args.self (sound start.args.self start.requires.sound) start.requires.enough c.if-self-ge15.false)
+    (second_before c.args.self (sound c.args.self c.requires.sound) c.requires.enough c.if-self-ge15.false)

@@ -10,10 +10,9 @@ use Rattle.feed.proofs.Head.held_phases.Goals as goal
 pub returns : goal.returns
 unfolding phase_over
 returns c =
-    let b = c in
-    let all = b.phases_of-all.ensures in
-    let held = b.args.self.held in
-    let p = b.phase_if-p.ensures ∙ ap (λ (k : Phases). cond (leb 31 held) k.p zero_phase) all in
+    let all = c.phases_of-all.ensures in
+    let held = c.args.self.held in
+    let p = c.phase_if-p.ensures ∙ ap (λ (k : Phases). cond (leb 31 held) k.p zero_phase) all in
     let q = c.phase_if-q.ensures ∙ ap (λ (k : Phases). cond (leb 30 held) k.q zero_phase) all in
     let r = c.phase_if-r.ensures ∙ ap (λ (k : Phases). cond (leb 29 held) k.r zero_phase) all in
     λ i. record { p = p i; q = q i; r = r i }

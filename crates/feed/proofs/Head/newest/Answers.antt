@@ -7,5 +7,4 @@ use Rattle.feed.proofs.Head.newest.Goals as goal
 
 pub returns : goal.returns
 returns c =
-    let s = c in
-    c.phase_if.ensures ∙ newest_so s.args.self (sound s.args.self s.requires) (lent_samples 31 s.args.window.now) _ c.newest_phase.ensures
+    c.phase_if.ensures ∙ newest_so c.args.self (sound c.args.self c.requires) (lent_samples 31 c.args.window.now) _ c.newest_phase.ensures

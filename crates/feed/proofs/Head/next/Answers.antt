@@ -16,8 +16,7 @@ overflow_add-index c =
 
 pub overflow_add-result : goal.overflow_add-result
 overflow_add-result c =
-    let start = c in
-    let last = not_last start.args.self start.requires.in_time (c.if-index-sampling.true ∙ c.sampling.ensures) in
+    let last = not_last c.args.self c.requires.in_time (c.if-index-sampling.true ∙ c.sampling.ensures) in
     omega arith
 
 pub returns-then-index-sampling : goal.returns-then-index-sampling

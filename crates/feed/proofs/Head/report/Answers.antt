@@ -22,14 +22,12 @@ use Rattle.feed.proofs.Head.report.Goals as goal
 
 pub nonzero_div-frame : goal.nonzero_div-frame
 nonzero_div-frame c =
-    let start = c in
-    rw c.spacing.ensures (spacing_positive _ _ (sound start.args.self start.requires.sound).rated)
+    rw c.spacing.ensures (spacing_positive _ _ (sound c.args.self c.requires.sound).rated)
 
 pub overflow_cast-frame : goal.overflow_cast-frame
 overflow_cast-frame c =
-    let start = c in
-    let h = start.args.self in
-    let v = (sound h start.requires.sound).rated in
+    let h = c.args.self in
+    let v = (sound h c.requires.sound).rated in
     let i : (centre_at h).index < sampling_of h.nominal = mod-lt (centre_number h) (omega (arith, v.low)) in
     rw (c.centre-centre.ensures, c.spacing.ensures)
     (record { fits = omega (arith, frame_below h.nominal h.rate (centre_at h).index v i, v.fast) })
@@ -37,15 +35,14 @@ overflow_cast-frame c =
 pub returns : goal.returns
 unfolding report_with tagged
 returns c =
-    let start = c in
     let m = c.measure_kept-figures in
-    let k = start.args.kept in
-    let h = start.args.self in
-    let w = lent_samples 31 start.args.window.now in
+    let k = c.args.kept in
+    let h = c.args.self in
+    let w = lent_samples 31 c.args.window.now in
     let figures : m.result ≡ figures_with three_phase (nominal_of h.nominal) (windowed w (next_number_of h - 30)) (centre_number h) k =
     m.ensures
     ∙ ap (λ (n : Nominal). figures_with three_phase n (windowed w h.index) (h.index + 15) k) c.nominal_of.ensures
-    ∙ by_newest (nominal_of h.nominal) w k h (sound h start.requires.sound) start.requires.enough in
+    ∙ by_newest (nominal_of h.nominal) w k h (sound h c.requires.sound) c.requires.enough in
     let re : SFits w64 m.result.re = search rules in
     let im : SFits w64 m.result.im = search rules in
     let d1 : SFits w32 m.result.d1 = search rules in

@@ -6,10 +6,9 @@ use Rattle.feed.proofs.places.put_window.Goals as goal
 
 pub returns : goal.returns
 returns c =
-    let s = c in
-    let w = s.args.window.now in
-    let l = s.args.places.now in
+    let w = c.args.window.now in
+    let l = c.args.places.now in
     let first = c.put_numbers in
     let second = c.put_numbers-2 in
-    let both = both_put l s.args.place s.requires.2 s.requires.1 w s.requires.0 first.new.numbers first.ensures second.new.numbers second.ensures in
-    ap (lent_samples 31) both ∙ samples_round l s.args.place s.requires.2
+    let both = both_put l c.args.place c.requires.2 c.requires.1 w c.requires.0 first.new.numbers first.ensures second.new.numbers second.ensures in
+    ap (lent_samples 31) both ∙ samples_round l c.args.place c.requires.2

@@ -4,7 +4,7 @@ use Rattle.ints.proofs.Cases.{when_true, when_false}
 use Rattle.model.proofs.angle.either.Goals as goal
 
 pub returns-then-test : goal.returns-then-test
-returns-then-test c = let s = c in to_z-of_z s.ranges.x ∙ sym (when_true s.args.test _ _ c.if-test.true)
+returns-then-test c = to_z-of_z c.ranges.x ∙ sym (when_true c.args.test _ _ c.if-test.true)
 
 pub returns-else-test : goal.returns-else-test
-returns-else-test c = let s = c in to_z-of_z s.ranges.y ∙ sym (when_false s.args.test _ _ c.if-test.false)
+returns-else-test c = to_z-of_z c.ranges.y ∙ sym (when_false c.args.test _ _ c.if-test.false)

@@ -3,4 +3,4 @@ use Rattle.std.proofs.Common.{arith}
 use Rattle.model.proofs.report.difference.Goals as goal
 
 pub returns : goal.returns
-returns c = omega (arith, c)
+returns c = omega arith

@@ -9,10 +9,9 @@ returns-then-p-q c = let a = c.args in sym (differences_none a.p a.q a.r c.if-p-
 
 pub returns : goal.returns
 returns c =
-    let t = c in
-    let a = t.args in
+    let a = c.args in
     let f : SFits w32 c.signed32.result = search rules in
     let g : SFits w32 c.signed32-2.result = search rules in
     let d1-is = to_z-of_z f ∙ c.signed32.ensures ∙ ap signed32 c.difference.ensures in
     let d2-is = to_z-of_z g ∙ c.signed32-2.ensures ∙ ap signed32 c.second_difference.ensures in
-    (λ i. record { d1 = d1-is i; d2 = d2-is i; mark = 0 }) ∙ sym (differences_some a.p a.q a.r t.if-p-q.false)
+    (λ i. record { d1 = d1-is i; d2 = d2-is i; mark = 0 }) ∙ sym (differences_some a.p a.q a.r c.if-p-q.false)

@@ -6,9 +6,8 @@ use Rattle.model.proofs.report.phases_of.Goals as goal
 
 pub returns : goal.returns
 returns c =
-    let s = c in
-    let i = s.args.index in
-    let at = phase_at three_phase (windowed (lent_samples 31 s.args.window.now) i) in
+    let i = c.args.index in
+    let at = phase_at three_phase (windowed (lent_samples 31 c.args.window.now) i) in
     let e : i + 0 + 14 ≡ i + 30 - 16 = omega arith in
     let f : i + 1 + 14 ≡ i + 30 - 15 = omega arith in
     let g : i + 2 + 14 ≡ i + 30 - 14 = omega arith in

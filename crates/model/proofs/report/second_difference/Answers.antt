@@ -7,10 +7,9 @@ use Rattle.model.proofs.report.second_difference.Goals as goal
 pub returns : goal.returns
 unfolding second_difference
 returns c =
-    let s = c in
     let later = c.difference-later in
     let sooner = c.difference-sooner in
     let d = c.wrapping_sub_u32 in
     wrapped later.result sooner.result d.result d.type_inv sooner.type_inv d.ensures.value
     ∙ ap₂ less later.ensures sooner.ensures
-    ∙ less_twice s.args.p.parts s.args.q.parts s.args.r.parts (omega (arith, s)) (omega (arith, s)) (omega (arith, s))
+    ∙ less_twice c.args.p.parts c.args.q.parts c.args.r.parts (omega arith) (omega arith) (omega arith)

@@ -7,12 +7,11 @@ use Rattle.phs.proofs.line.put_report.Goals as goal
 pub returns : goal.returns
 unfolding report_line
 returns c =
-    let start = c in
-    let r = start.args.r in
-    let re : SFits w64 start.args.r.re = search rules in
-    let im : SFits w64 start.args.r.im = search rules in
-    let d1 : SFits w32 start.args.r.d1 = search rules in
-    let d2 : SFits w32 start.args.r.d2 = search rules in
+    let r = c.args.r in
+    let re : SFits w64 c.args.r.re = search rules in
+    let im : SFits w64 c.args.r.im = search rules in
+    let d1 : SFits w32 c.args.r.d1 = search rules in
+    let d2 : SFits w32 c.args.r.d2 = search rules in
     written_as
     (λ i. report_line r.soc r.frame (same re i) (same im i) (same_wide d1 i) (same_wide d2 i) r.mark)
-    (line_written c.put.ensures (omega arith) start.requires)
+    (line_written c.put.ensures (omega arith) c.requires)

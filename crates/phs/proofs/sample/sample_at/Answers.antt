@@ -7,5 +7,4 @@ use Rattle.phs.proofs.sample.sample_at.Goals as goal
 pub returns : goal.returns
 unfolding sample_of
 returns c =
-    let start = c in
-    c.sample_of.ensures ∙ sym (six_from start.args.bytes.now start.args.i)
+    c.sample_of.ensures ∙ sym (six_from c.args.bytes.now c.args.i)

@@ -10,11 +10,10 @@ use Rattle.salvage.proofs.slot.mend_slot.Goals as goal
 pub returns : goal.returns
 unfolding mended_slot told
 returns c =
-    let left = c in
-    let read = left.read-before in
-    let s = left.args.slot.now in
-    let damage = left.damage_of-damage.ensures ∙ ap damage_of read.ensures in
-    let after : left.left_by-after.result ≡ mended_slot s = left.left_by-after.ensures ∙ (λ i. left_by (damage i) (read.ensures i)) in
+    let read = c.read-before in
+    let s = c.args.slot.now in
+    let damage = c.damage_of-damage.ensures ∙ ap damage_of read.ensures in
+    let after : c.left_by-after.result ≡ mended_slot s = c.left_by-after.ensures ∙ (λ i. left_by (damage i) (read.ensures i)) in
     let count : c.count-differing.result ≡ differing s (mended_slot s) = c.count-differing.ensures ∙ (λ i. differing (read.ensures i) (after i)) in
     let fate = c.fate_by-fate.ensures ∙ (λ i. fate_by (damage i) (not (eqb (count i) 0))) in
     (λ i. record { fate = fate i; differing = count i }, c.copy_from_slice.ensures.after ∙ after)

@@ -6,6 +6,5 @@ use Rattle.model.proofs.angle.Angle.fewer.Goals as goal
 
 pub returns : goal.returns
 returns c =
-    let s = c in
     let d = c.wrapping_sub_u32 in
-    c.of.ensures ∙ ap angle_of (wrapped s.args.self.parts s.args.by d.result d.type_inv (omega (arith, s)) d.ensures.value)
+    c.of.ensures ∙ ap angle_of (wrapped c.args.self.parts c.args.by d.result d.type_inv (omega arith) d.ensures.value)
