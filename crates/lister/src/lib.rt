@@ -40,7 +40,7 @@ enum State {
 }
 
 // What one read leaves.
-#[derive(Drop)]
+#[derive(Clone, Copy)]
 struct Turn {
     reader: Reader,
     state: State,

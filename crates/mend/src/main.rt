@@ -28,14 +28,6 @@ fn up_to(n: usize, most: usize) -> usize
     if n < most { n } else { most }
 }
 
-// One read of standard input.
-fn read(rt: &HostRuntime, room: &mut [u8]) -> io::Result<usize>
-    ensures { ReadsAtMost result room.new }
-{
-    let mut from = rt.stdin();
-    from.read(room)
-}
-
 // The count of a read: -1 where it failed.
 fn count_of(got: io::Result<usize>, room: &[u8]) -> isize
     requires { ReadsAtMost got room.now }
@@ -54,7 +46,7 @@ fn read_input(rt: &HostRuntime, room: &mut [u8]) -> Input
     let mut held = 0;
     while held <= IMAGE {
         let part = &mut room[held..];
-        let got = read(rt, part);
+        let got = rt.stdin().read(part);
         let brought = reads::meaning(count_of(got, part));
         match brought {
             Brought::Failed => {

@@ -32,7 +32,7 @@ enum Next {
 }
 
 // How far a part of the script was run, where the text of the answers ends, and what follows.
-#[derive(Drop)]
+#[derive(Clone, Copy)]
 struct Ran {
     at: usize,
     text: usize,
@@ -40,7 +40,7 @@ struct Ran {
 }
 
 // How many bytes of the script are held for the next turn, where the text ends, and what follows.
-#[derive(Drop)]
+#[derive(Clone, Copy)]
 struct Turn {
     held: usize,
     text: usize,
@@ -61,14 +61,6 @@ fn write(rt: &HostRuntime, text: &[u8]) -> bool {
             false
         }
     }
-}
-
-// One read of standard input.
-fn read(rt: &HostRuntime, room: &mut [u8]) -> io::Result<usize>
-    ensures { ReadsAtMost result room.new }
-{
-    let mut from = rt.stdin();
-    from.read(room)
 }
 
 // The count of a read: -1 where it failed.
@@ -174,7 +166,7 @@ fn read_on(
     ensures { (result.held ≤ length input.new) × (result.text ≤ length out.new) }
 {
     let room = &mut input[held..];
-    let got = read(rt, room);
+    let got = rt.stdin().read(room);
     let brought = reads::meaning(count_of(got, room));
     match brought {
         Brought::Failed => {
