@@ -1,10 +1,10 @@
 -- Document 01, "PHS files and the listing", with CR 2: the header of a file, and its refusals in their order.
-use Rattle.std.specs.Prelude.{◌≡◌, Bool, cond, not, ◌&&◌, ◌||◌, List, [], ◌∷◌, ℕ, eqb, ltb, length, get_or}
-use Rattle.refusals.specs.Refusals.{Refusal, unless_refused}
+use Rattle.std.specs.Prelude.{Result, Ok, Err, ◌≡◌, Bool, cond, not, ◌&&◌, ◌||◌, List, [], ◌∷◌, ℕ, eqb, ltb, length, get_or}
+use Rattle.refusals.specs.Refusals.{Refusal, unless_refused, number_of}
 use Rattle.sampling.specs.Tags.{kept_rate, no_nominal, no_rate}
 use Rattle.bits.specs.Bits.{be16, be32}
 use Rattle.header.specs.declared.Header.{Header}
-use Rattle.header.specs.declared.Header.TheVariants.{Refused, Opens}
+use Rattle.refusals.specs.declared.Refused.{Refused}
 
 -- ---- Header, 11 bytes: "PHS", version (16 bits, 1 or 2), nominal, rate, SOC (32 bits), big-endian
 
@@ -58,9 +58,9 @@ pub data Said : Type 0 where
   opens : (version nominal rate soc : ℕ) → Said
 
 -- each case of the answer
-abbrev pub said : Header → Said
-said (Refused number) = refused number
-said (Opens version nominal rate soc) = opens version nominal rate soc
+abbrev pub said : Result Header Refused → Said
+said (Err r) = refused (number_of r)
+said (Ok h) = opens h.version h.nominal h.rate h.soc
 
 -- CR 2: version 1 files with rate 0 were recorded under the old meaning, so the file reader passes 10 itself; version 2 files take the new
 -- meaning, which is that of an opening
@@ -76,5 +76,5 @@ unfoldable pub headed : List ℕ → Said
 headed h = unless_refused (header_refusals h) refused (opening_in h)
 
 -- what `read_header` promises
-abbrev pub Heading : List ℕ → Header → Type 0
+abbrev pub Heading : List ℕ → Result Header Refused → Type 0
 Heading h r = said r ≡ headed h

@@ -6,48 +6,45 @@ ghost use Rattle.bits.specs.Bits.{be16};
 ghost use Rattle.header.specs.Header.{Heading, is_mark, meant_rate};
 
 use bits::{be16, be32};
+use refusals::Refused;
 
-// What a header says: refused, or the version and what it opens a feed with, the rate being the one kept.
+// What a header says: the version, and what it opens a feed with, the rate being the one kept.
 #[derive(Clone, Copy)]
-pub enum Header {
-    Refused(u8),
-    Opens {
-        version: u16,
-        nominal: u8,
-        rate: u8,
-        soc: u32,
-    },
+pub struct Header {
+    pub version: u16,
+    pub nominal: u8,
+    pub rate: u8,
+    pub soc: u32,
 }
 
 // Reads the header that these bytes begin with: refused 14, 12, 13, 6, 7.
-pub fn read_header(h: &[u8]) -> Header
+pub fn read_header(h: &[u8]) -> Result<Header, Refused>
     ensures { Heading h.now result }
 {
     if h.len() < 11 {
-        return Header::Refused(14);
+        return Err(Refused::HeaderCut);
     }
     if !is_mark(h) {
-        return Header::Refused(12);
+        return Err(Refused::Mark);
     }
     let version = be16(h[3], h[4]);
     if !((version == 1) | (version == 2)) {
-        return Header::Refused(13);
+        return Err(Refused::Version);
     }
     let nominal = h[5];
     if !sampling::served_nominal(nominal) {
-        return Header::Refused(6);
+        return Err(Refused::Nominal);
     }
     let rate = h[6];
     if !(sampling::served_rate(nominal, rate) | (rate == 0)) {
-        return Header::Refused(7);
+        return Err(Refused::Rate);
     }
-    let meant = meant_rate(version, nominal, rate);
-    Header::Opens {
+    Ok(Header {
         version,
         nominal,
-        rate: meant,
+        rate: meant_rate(version, nominal, rate),
         soc: be32(h[7], h[8], h[9], h[10]),
-    }
+    })
 }
 
 // "PHS".
@@ -55,7 +52,7 @@ fn is_mark(h: &[u8]) -> bool
     requires { 10 < length h.now }
     ensures { result ≡ is_mark h.now }
 {
-    (h[0] == 80) & (h[1] == 72) & (h[2] == 83)
+    h.starts_with(b"PHS")
 }
 
 // CR 2: a version 1 file with rate 0 means 10, under which it was recorded; else the rate is what an opening keeps.

@@ -1,2 +1,3 @@
 -- The laws of `refusals`.
+pub mod Numbers
 pub mod Passing
