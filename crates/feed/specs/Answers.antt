@@ -1,8 +1,8 @@
 -- Document 01, "The bank" and "The report": what is said of an answer. "Done" is what the bank's clearing, opening and closing answer.
-use Rattle.std.specs.Prelude.{ℕ, ℤ, Float}
+use Rattle.std.specs.Prelude.{Result, Ok, Err, Option, Some, None, ℕ, ℤ, Float}
 use Rattle.model.specs.declared.report.Figures.{Figures}
-use Rattle.feed.specs.declared.Answer.{Answer}
-use Rattle.feed.specs.declared.Answer.TheVariants.{Refused, Taken, Reported}
+use Rattle.refusals.specs.declared.Refused.{Refused}
+use Rattle.refusals.specs.Refusals.{number_of}
 use Rattle.feed.specs.declared.Report.{Report}
 
 -- the number of a refusal, "done", or "taken", with a report or without one
@@ -17,10 +17,10 @@ abbrev pub said_report : Report → Said
 said_report r = taken_with r.soc r.frame r.re r.im r.d1 r.d2 r.mark r.re_peak r.im_peak r.deviation r.rocof
 
 -- what a push's answer says, case by case
-abbrev pub said : Answer → Said
-said (Refused number) = refused number
-said Taken = taken
-said (Reported r) = said_report r
+abbrev pub said : Result (Option Report) Refused → Said
+said (Err r) = refused (number_of r)
+said (Ok None) = taken
+said (Ok (Some r)) = said_report r
 
 -- the figures at a centre, with their tag: SOC and frame
 unfoldable pub tagged : ℕ → ℕ → Figures → Said

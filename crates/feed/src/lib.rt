@@ -15,6 +15,7 @@ ghost use Rattle.feed.specs.Inside.{centre_at, due_with, report_with, newest_wit
 use model::{Angle, Phase, Phases, Sample, measure_kept, newest_phase, phases_of};
 use places::{more_held, next_place, put_sample, window_from, window_with};
 pub use places::{place_of, sample_of};
+use refusals::Refused;
 use sampling::{kept_rate, nominal_of, served_nominal, served_rate};
 
 // The numbers of a feed: what it is opened with, how many samples it holds, where the next one stands and where it goes.
@@ -58,19 +59,11 @@ pub struct Report {
     pub rocof: f64,
 }
 
-// What a push answers: refused, taken without a report, or taken with one.
-#[derive(Clone, Copy)]
-pub enum Answer {
-    Refused(u8),
-    Taken,
-    Reported(Report),
-}
-
-// The next feed, beside the answer.
+// The next feed, beside the answer: refused, taken with a report, or taken without one.
 #[derive(Clone, Copy)]
 pub struct Pushed {
     pub feed: Feed,
-    pub answer: Answer,
+    pub answer: Result<Option<Report>, Refused>,
 }
 
 // Zero, with flag 0: what is kept of a centre until it has 29 samples.
@@ -324,12 +317,12 @@ impl Feed {
             let report = head.report(&window, kept);
             return Pushed {
                 feed: next,
-                answer: Answer::Reported(report),
+                answer: Ok(Some(report)),
             };
         }
         Pushed {
             feed: next,
-            answer: Answer::Taken,
+            answer: Ok(None),
         }
     }
 
@@ -341,13 +334,13 @@ impl Feed {
         if head.is_faulty() {
             return Pushed {
                 feed: self,
-                answer: Answer::Refused(3),
+                answer: Err(Refused::Damaged),
             };
         }
         if head.is_end_of_time() {
             return Pushed {
                 feed: self,
-                answer: Answer::Refused(8),
+                answer: Err(Refused::EndOfTime),
             };
         }
         self.taken(s)
