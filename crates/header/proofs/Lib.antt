@@ -1,4 +1,3 @@
 -- The laws of `header`.
 pub mod Unique
-pub mod Order
 pub mod Meant

@@ -1,9 +1,8 @@
 // Document 01, "PHS files and the listing", with CR 2: the eleven bytes of a header.
 #![tactic(auto)]
 
-ghost use Rattle.std.specs.Prelude.{◌≡◌, ◌<◌, length};
-ghost use Rattle.bits.specs.Bits.{be16};
-ghost use Rattle.header.specs.Header.{Heading, is_mark, meant_rate};
+ghost use Rattle.std.specs.Prelude.{◌≡◌};
+ghost use Rattle.header.specs.Header.{Heading, meant_rate};
 
 use bits::{be16, be32};
 use refusals::Refused;
@@ -18,13 +17,14 @@ pub struct Header {
 }
 
 // Reads the header that these bytes begin with: refused 14, 12, 13, 6, 7.
+#[tactic(auto, unfolding(crate::specs::Header::headed, crate::specs::Header::is_mark, crate::specs::Header::version_in, crate::specs::Header::soc_in))]
 pub fn read_header(h: &[u8]) -> Result<Header, Refused>
     ensures { Heading h.now result }
 {
     if h.len() < 11 {
         return Err(Refused::HeaderCut);
     }
-    if !is_mark(h) {
+    if !h.starts_with(b"PHS") {
         return Err(Refused::Mark);
     }
     let version = be16(h[3], h[4]);
@@ -39,28 +39,22 @@ pub fn read_header(h: &[u8]) -> Result<Header, Refused>
     if !(sampling::served_rate(nominal, rate) | (rate == 0)) {
         return Err(Refused::Rate);
     }
+    let meant = meant_rate(version, nominal, rate);
     Ok(Header {
         version,
         nominal,
-        rate: meant_rate(version, nominal, rate),
+        rate: meant,
         soc: be32(h[7], h[8], h[9], h[10]),
     })
 }
 
-// "PHS".
-fn is_mark(h: &[u8]) -> bool
-    requires { 10 < length h.now }
-    ensures { result ≡ is_mark h.now }
-{
-    h.starts_with(b"PHS")
-}
-
 // CR 2: a version 1 file with rate 0 means 10, under which it was recorded; else the rate is what an opening keeps.
+#[tactic(auto, unfolding(crate::specs::Header::meant_rate))]
 fn meant_rate(version: u16, nominal: u8, rate: u8) -> u8
     ensures { result ≡ meant_rate version nominal rate }
 {
-    if (version == 1) & (rate == 0) {
-        return 10;
+    match (version, rate) {
+        (1, 0) => 10,
+        _ => sampling::kept_rate(nominal, rate),
     }
-    sampling::kept_rate(nominal, rate)
 }

@@ -13,10 +13,10 @@ in_turn =
     ∷ Version ∷ HeaderCut ∷ SampleCut ∷ RunsDiffer ∷ OffCentre ∷ FrameLength ∷ Sync ∷ SizeField ∷ Checksum ∷ IdCode ∷ Stat ∷ Tag ∷ []
 
 -- the refusal of a number; of one that is not in turn, the last
-abbrev refused_of : ℕ → Refused
+abbrev pub refused_of : ℕ → Refused
 refused_of n = slice_index_or in_turn (n - 1) TimeBase
 
-again : (r : Refused) → refused_of (number_of r) ≡ r
+pub again : (r : Refused) → refused_of (number_of r) ≡ r
 again BankLength = refl
 again NoSlot = refl
 again Damaged = refl

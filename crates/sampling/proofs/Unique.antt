@@ -3,7 +3,10 @@ use mathlib.Core.Path.{◌≡◌, sym, ◌∙◌}
 use mathlib.Core.Bool.{Bool}
 use Prim.Native.Nat.{ℕ}
 use Rattle.sampling.specs.Sampling.{sampling}
-use Rattle.sampling.specs.Tags.{served_nominal, nominal_of, served_rate, kept_rate}
+use Rattle.std.specs.Prelude.{Result}
+use Rattle.refusals.specs.declared.Refused.{Refused}
+use Rattle.refusals.proofs.Numbers.{by_number_injective}
+use Rattle.sampling.specs.Tags.{served_nominal, nominal_of, served_rate, kept_rate, Naming}
 use Rattle.sampling.specs.declared.Nominal.{Nominal}
 
 pub nominal_sampling_unique : (nominal : Nominal) (r s : ℕ) → r ≡ sampling nominal → s ≡ sampling nominal → r ≡ s
@@ -11,6 +14,9 @@ nominal_sampling_unique nominal r s p q = p ∙ sym q
 
 pub served_nominal_unique : (nominal : ℕ) (r s : Bool) → r ≡ served_nominal nominal → s ≡ served_nominal nominal → r ≡ s
 served_nominal_unique nominal r s p q = p ∙ sym q
+
+pub try_from_unique : (nominal : ℕ) (r s : Result Nominal Refused) → Naming nominal r → Naming nominal s → r ≡ s
+try_from_unique nominal r s p q = by_number_injective r s (p ∙ sym q)
 
 pub served_rate_unique : (nominal rate : ℕ) (r s : Bool) → r ≡ served_rate nominal rate → s ≡ served_rate nominal rate → r ≡ s
 served_rate_unique nominal rate r s p q = p ∙ sym q

@@ -1,9 +1,10 @@
 -- Document 01, "Sampling and tags", with CR 2: which nominals and rates are served, the kept rate, D, and where a sample stands.
-use Rattle.std.specs.Prelude.{Bool, false, not, cond, ◌||◌, List, [], ◌∷◌, ℕ, ◌/◌, ◌%◌, eqb}
+use Rattle.std.specs.Prelude.{◌≡◌, Result, Ok, Err, Bool, false, not, cond, ◌||◌, List, [], ◌∷◌, ℕ, ◌/◌, ◌%◌, eqb}
 use Rattle.sampling.specs.declared.Nominal.{Nominal}
 use Rattle.sampling.specs.declared.Nominal.TheVariants.{Fifty, Sixty}
 use Rattle.sampling.specs.Sampling.{sampling_of}
-use Rattle.refusals.specs.Refusals.{Refusal}
+use Rattle.refusals.specs.declared.Refused.{Refused}
+use Rattle.refusals.specs.Refusals.{Refusal, unless_refused, by_number}
 
 -- Nominal frequency is 50 or 60 Hz
 abbrev pub served_nominal : ℕ → Bool
@@ -29,6 +30,10 @@ served_rate nominal rate = among rate (rates nominal)
 -- 6: nominal not 50 or 60
 abbrev pub no_nominal : ℕ → Refusal
 no_nominal nominal = record { number = 6; due = not (served_nominal nominal) }
+
+-- what naming a nominal frequency by its number promises: refused 6, or the frequency
+abbrev pub Naming : ℕ → Result Nominal Refused → Type 0
+Naming nominal r = by_number r ≡ unless_refused (no_nominal nominal ∷ []) Err (Ok (nominal_of nominal))
 
 -- 7: rate not served, and not 0
 abbrev pub no_rate : ℕ → ℕ → Refusal

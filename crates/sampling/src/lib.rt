@@ -3,7 +3,9 @@
 
 ghost use Rattle.std.specs.Prelude.{◌≡◌};
 ghost use Rattle.sampling.specs.Sampling.{sampling};
-ghost use Rattle.sampling.specs.Tags.{served_nominal, served_rate, kept_rate, nominal_of};
+ghost use Rattle.sampling.specs.Tags.{served_nominal, served_rate, kept_rate, nominal_of, Naming};
+
+use refusals::Refused;
 
 // Nominal frequency: 50 or 60 Hz.
 #[derive(Clone, Copy)]
@@ -24,6 +26,21 @@ impl Nominal {
     }
 }
 
+// A number that is no nominal is refused 6.
+impl TryFrom<u8> for Nominal {
+    type Error = Refused;
+
+    ghost try_from_gives = { Naming };
+
+    fn try_from(nominal: u8) -> Result<Nominal, Refused> {
+        match nominal {
+            50 => Ok(Nominal::Fifty),
+            60 => Ok(Nominal::Sixty),
+            _ => Err(Refused::Nominal),
+        }
+    }
+}
+
 // Nominal frequency is 50 or 60 Hz.
 pub fn served_nominal(nominal: u8) -> bool
     ensures { result ≡ served_nominal nominal }
@@ -32,31 +49,26 @@ pub fn served_nominal(nominal: u8) -> bool
 }
 
 // Served rates: 10, 25, 50 reports a second at 50 Hz; 10, 12, 15, 20, 30, 60 at 60 Hz.
+#[tactic(auto, unfolding(crate::specs::Tags::served_rate))]
 pub fn served_rate(nominal: u8, rate: u8) -> bool
     ensures { result ≡ served_rate nominal rate }
 {
-    if nominal == 50 {
-        return (rate == 10) | (rate == 25) | (rate == 50);
+    match nominal {
+        50 => matches!(rate, 10 | 25 | 50),
+        60 => matches!(rate, 10 | 12 | 15 | 20 | 30 | 60),
+        _ => false,
     }
-    if nominal == 60 {
-        return (rate == 10)
-            | (rate == 12)
-            | (rate == 15)
-            | (rate == 20)
-            | (rate == 30)
-            | (rate == 60);
-    }
-    false
 }
 
 // CR 2: at opening, rate 0 stands for the nominal frequency, and that is what is kept.
+#[tactic(auto, unfolding(crate::specs::Tags::kept_rate))]
 pub fn kept_rate(nominal: u8, rate: u8) -> u8
     ensures { result ≡ kept_rate nominal rate }
 {
-    if rate == 0 {
-        return nominal;
+    match rate {
+        0 => nominal,
+        _ => rate,
     }
-    rate
 }
 
 // 50 is `Fifty`; every other number is answered as `Sixty`, and refusal 6 is for the caller to give.
