@@ -1,5 +1,6 @@
 -- Document 01, "Refusal numbers", with CR 4: refusals are data, and their order is a list.
-use Rattle.std.specs.Prelude.{Bool, cond, List, [], ◌∷◌, ℕ, Result, Ok, Err}
+use Rattle.std.specs.Prelude.{Bool, cond, List, [], ◌∷◌, ◌++◌, ℕ, codes, Result, Ok, Err}
+use Rattle.std.specs.Fmt.{decimal}
 use Rattle.refusals.specs.declared.Refused.{Refused}
 use Rattle.refusals.specs.declared.Refused.TheVariants.{BankLength, NoSlot, Damaged, AlreadyOpen, NotOpen, Nominal, Rate, EndOfTime, NoReference, Class, Test, Mark, Version, HeaderCut, SampleCut, RunsDiffer, OffCentre, FrameLength, Sync, SizeField, Checksum, IdCode, Stat, Tag, TimeBase}
 
@@ -45,3 +46,7 @@ number_of TimeBase = 36
 abbrev pub by_number : {A : Type 0} → Result A Refused → Result A ℕ
 by_number (Ok a) = Ok a
 by_number (Err r) = Err (number_of r)
+
+-- "A refusal prints `refused N`"
+abbrev pub refusal_text : Refused → List ℕ
+refusal_text r = codes "refused " ++ decimal (number_of r)

@@ -2,8 +2,11 @@
 // specs/.
 #![tactic(auto)]
 
-ghost use Rattle.std.specs.Prelude.{◌≡◌};
-ghost use Rattle.refusals.specs.Refusals.{number_of};
+ghost use Rattle.std.specs.Prelude.{◌≡◌, Some};
+ghost use Rattle.refusals.specs.Refusals.{number_of, refusal_text};
+
+use std::error::Error;
+use std::fmt;
 
 // What a call is refused for.
 #[derive(Clone, Copy, Debug, PartialEq, Eq)]
@@ -94,3 +97,14 @@ impl Refused {
         }
     }
 }
+
+// `refused N`
+impl fmt::Display for Refused {
+    ghost output = { λ r. Some (refusal_text r) };
+
+    fn fmt<W: fmt::Write>(&self, f: &mut fmt::Formatter<W>) -> fmt::Result {
+        write!(f, "refused {}", self.number())
+    }
+}
+
+impl Error for Refused {}
