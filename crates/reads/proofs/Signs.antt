@@ -1,13 +1,15 @@
--- What a count's meaning tells of the count. Assumes nothing.
-use mathlib.Core.Path.{◌≡◌}
-use Prim.Native.Nat.{ℕ, zero, suc, ◌<◌}
-use native.Mathlib.Omega.{arith}
-use lib.IntN.{ℤ, pos, negsuc}
-use Rattle.reads.specs.declared.Brought.TheVariants.{Bytes}
+-- What a read's meaning tells of its count. Assumes nothing.
+use Rattle.std.proofs.Common.{◌≡◌, ℕ, zero, suc, ◌<◌, Some, Result, Ok, Err, arith}
 use Rattle.reads.specs.Counts.{meaning}
 
 -- a read that brings bytes brings at least one
-pub at_least_one : (z : ℤ) (n : ℕ) → meaning z ≡ Bytes n → 0 < n
-at_least_one (pos zero) n e = absurd (let z : ◌≡◌ {A = ℕ} 0 1 = cc in omega arith)
-at_least_one (pos (suc k)) n e = let same : suc k ≡ n = cc in omega arith
-at_least_one (negsuc k) n e = absurd (let z : ◌≡◌ {A = ℕ} 0 1 = cc in omega arith)
+pub at_least_one : {E : Type 0} (got : Result ℕ E) (n : ℕ) → meaning got ≡ Ok (Some n) → 0 < n
+at_least_one (Err e) n p = cc
+at_least_one (Ok zero) n p = cc
+at_least_one (Ok (suc k)) n p = let same : suc k ≡ n = cc in omega arith
+
+-- and so many as it answered
+pub brings : {E : Type 0} (got : Result ℕ E) (n : ℕ) → meaning got ≡ Ok (Some n) → got ≡ Ok n
+brings (Err e) n p = cc
+brings (Ok zero) n p = cc
+brings (Ok (suc k)) n p = cc

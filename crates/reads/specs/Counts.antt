@@ -1,10 +1,8 @@
--- What a read's count means.
-use Rattle.std.specs.Prelude.{zero, suc, ℤ, pos, negsuc}
-use Rattle.reads.specs.declared.Brought.{Brought}
-use Rattle.reads.specs.declared.Brought.TheVariants.{Failed, End, Bytes}
+-- What a read's answer means.
+use Rattle.std.specs.Prelude.{ℕ, zero, suc, Option, None, Some, Result, Ok, Err}
 
--- below 0 an error, 0 the end, else that many bytes
-abbrev pub meaning : ℤ → Brought
-meaning (negsuc n) = Failed
-meaning (pos zero) = End
-meaning (pos (suc n)) = Bytes (suc n)
+-- an error is that error, 0 the end, else that many bytes
+abbrev pub meaning : {E : Type 0} → Result ℕ E → Result (Option ℕ) E
+meaning (Err e) = Err e
+meaning (Ok zero) = Ok None
+meaning (Ok (suc n)) = Ok (Some (suc n))
