@@ -1,23 +1,35 @@
--- What the machine reads of 16 or of 32 bits is the signed number. Assumes nothing.
-use mathlib.Core.Path.{◌≡◌, refl}
-use mathlib.Core.Bool.{Bool, true, false, cond}
-use Prim.Native.Nat.{ℕ, suc, ◌-◌, ◌^◌, ◌<◌}
-use lib.Dec.{ltb}
-use lib.IntN.{pos, negsuc, ◌-ℤ◌}
-use mir.Syntax.{w16, w32}
-use mir.Val.{to_z, sel}
-use borrow.Author.Tests.{lt-ltb}
-use Rattle.bits.specs.Bits.{signed_in, signed16, signed32}
+-- What the library's methods say, in the words of specs/Bits: bytes, and the signed reading. Assumes nothing.
+use Rattle.std.proofs.Common.{◌≡◌, ℕ, ◌^◌, ◌<◌, List, ℤ, pos, negsuc, slice_index, refl, arith}
+use Rattle.std.specs.Int.{w16, w32, to_be_bytes, from_be_bytes, cast_signed, cast_unsigned}
+use Rattle.std.proofs.lemmas.Int.{ints}
+use Rattle.bits.specs.Bits.{be16, be32, bytes16, bytes32, signed_in, signed16, signed32, bits16}
 
--- for n up to m, by either outcome of the test
-chosen : (m n : ℕ) → n < suc m → (b : Bool) → sel b (pos n) (negsuc (suc m - suc n)) ≡ cond b (pos n) (pos n -ℤ pos (suc m))
-chosen m n h true = refl
-chosen m n h false = simp (lt-ltb n (suc m) h)
+pub to_be_bytes_16 : (n : ℕ) → n < 2 ^ 16 → to_be_bytes w16 n ≡ bytes16 n
+to_be_bytes_16 n h = grind arith
 
-pub reads_16 : (n : ℕ) → n < 2 ^ 16 → to_z w16 n ≡ signed16 n
+pub to_be_bytes_32 : (n : ℕ) → n < 2 ^ 32 → to_be_bytes w32 n ≡ bytes32 n
+to_be_bytes_32 n h = grind arith
+
+pub from_be_bytes_16 : (l : List ℕ) → from_be_bytes w16 l ≡ be16 (slice_index l 0) (slice_index l 1)
+from_be_bytes_16 l = omega arith
+
+pub from_be_bytes_32 : (l : List ℕ) → from_be_bytes w32 l ≡ be32 (slice_index l 0) (slice_index l 1) (slice_index l 2) (slice_index l 3)
+from_be_bytes_32 l = omega arith
+
+-- `cast_unsigned`
+pub cast_unsigned_16 : (z : ℤ) → cast_unsigned w16 z ≡ bits16 z
+unfolding bits16
+cast_unsigned_16 (pos n) = refl
+cast_unsigned_16 (negsuc n) = refl
+
+-- `cast_signed`
+pub reads_16 : (n : ℕ) → n < 2 ^ 16 → cast_signed w16 n ≡ signed16 n
 unfolding signed_in
-reads_16 n h = chosen (2 ^ 16 - 1) n h (ltb n (2 ^ 15))
+reads_16 n h = grind (arith, ints)
 
-pub reads_32 : (n : ℕ) → n < 2 ^ 32 → to_z w32 n ≡ signed32 n
+pub reads_32 : (n : ℕ) → n < 2 ^ 32 → cast_signed w32 n ≡ signed32 n
 unfolding signed_in
-reads_32 n h = chosen (2 ^ 32 - 1) n h (ltb n (2 ^ 31))
+reads_32 n h = grind (arith, ints)
+
+-- all of them, for an attribute's `using`
+pub ruleset readings = (to_be_bytes_16, to_be_bytes_32, from_be_bytes_16, from_be_bytes_32, cast_unsigned_16, reads_16, reads_32)
