@@ -1,16 +1,15 @@
 -- Document 01, "The verdict", with CR 1: each error against its limit, what is left out, and the refusals of judging in their order.
-use Rattle.std.specs.Prelude.{◌≡◌, Bool, cond, ◌&&◌, List, [], ◌∷◌, ℕ, ◌*◌, ltb, leb, eqb, ℤ, pos, neg_ℤ, nat_abs}
+use Rattle.std.specs.Prelude.{◌≡◌, Result, Ok, Err, Option, Some, None, Bool, cond, ◌&&◌, List, [], ◌∷◌, ℕ, ◌*◌, ltb, leb, eqb, ℤ, pos, neg_ℤ, nat_abs}
 use Rattle.std.specs.Int.Signed.{le_z}
 use Rattle.verdict.specs.Errors.{errors_of}
 use Rattle.verdict.specs.Limits.{limits_for}
-use Rattle.refusals.specs.Refusals.{Refusal, unless_refused}
+use Rattle.refusals.specs.declared.Refused.{Refused}
+use Rattle.refusals.specs.Refusals.{Refusal, unless_refused, number_of}
 use Rattle.verdict.specs.declared.errors.Device.{Device}
 use Rattle.verdict.specs.declared.errors.Reference.{Reference}
 use Rattle.verdict.specs.declared.errors.Errors.{Errors}
 use Rattle.verdict.specs.declared.limits.Limits.{Limits}
 use Rattle.verdict.specs.declared.judging.Verdict.{Verdict}
-use Rattle.verdict.specs.declared.judging.Judged.{Judged}
-use Rattle.verdict.specs.declared.judging.Judged.TheVariants.{Refused, LeftOut, Verdicts}
 
 -- with limit p percent, TVE is within exactly when (dr² + di²)·10000 ≤ p²·(re² + im²)
 abbrev pub vector_within : ℕ → ℕ → ℕ → Bool
@@ -63,11 +62,11 @@ judgement class test m device reference =
     (said_verdict (verdict_on (errors_of device reference) (limits_for class test))))
 
 -- each case of the answer, by document 01's number and values
-abbrev pub said : Judged → Said
-said (Refused number) = refused number
-said LeftOut = left_out
-said (Verdicts v) = said_verdict v
+abbrev pub said : Result (Option Verdict) Refused → Said
+said (Err r) = refused (number_of r)
+said (Ok None) = left_out
+said (Ok (Some v)) = said_verdict v
 
 -- what `judge` promises of its answer
-abbrev pub Judging : ℕ → ℕ → ℤ → Device → Reference → Judged → Type 0
+abbrev pub Judging : ℕ → ℕ → ℤ → Device → Reference → Result (Option Verdict) Refused → Type 0
 Judging class test m device reference r = said r ≡ judgement class test m device reference

@@ -5,6 +5,7 @@ ghost use Rattle.verdict.specs.Judging.{verdict_on, is_left_out, no_reference, J
 
 use crate::errors::{Device, Errors, Reference, errors_of};
 use crate::limits::{Limits, limits_for};
+use refusals::Refused;
 
 // Whether each error is within its limit.
 #[derive(Clone, Copy)]
@@ -12,17 +13,6 @@ pub struct Verdict {
     pub tve: bool,
     pub fe: bool,
     pub rfe: bool,
-}
-
-// What judging answers: a refusal, "left out", or the verdicts.
-#[derive(Clone, Copy)]
-pub enum Judged {
-    // a refusal's number, alone
-    Refused(u8),
-    // left out, with no verdicts
-    LeftOut,
-    // the verdicts on TVE, FE and RFE
-    Verdicts(Verdict),
 }
 
 // Each error against its limit: meeting the limit is within.
@@ -55,24 +45,30 @@ fn left_out(test: u8, m: i32) -> bool
     (test == 1) & (-2 <= m) & (m <= 2)
 }
 
-// The judging of one device report: refusals 10, 11, 9, then "left out", then the three verdicts.
+// The judging of one device report: refusals 10, 11, 9, then "left out", with no verdicts (`None`), then the three verdicts.
 #[tactic(auto, unfolding(crate::specs::Judging::judgement))]
-pub fn judge(class: u8, test: u8, m: i32, device: Device, reference: Reference) -> Judged
+pub fn judge(
+    class: u8,
+    test: u8,
+    m: i32,
+    device: Device,
+    reference: Reference,
+) -> Result<Option<Verdict>, Refused>
     ensures { Judging class test m device reference result }
 {
     if class > 1 {
-        return Judged::Refused(10);
+        return Err(Refused::Class);
     }
     if test > 1 {
-        return Judged::Refused(11);
+        return Err(Refused::Test);
     }
     if no_reference(reference) {
-        return Judged::Refused(9);
+        return Err(Refused::NoReference);
     }
     if left_out(test, m) {
-        return Judged::LeftOut;
+        return Ok(None);
     }
     let errors = errors_of(device, reference);
     let limits = limits_for(class, test);
-    Judged::Verdicts(verdict_on(errors, limits))
+    Ok(Some(verdict_on(errors, limits)))
 }

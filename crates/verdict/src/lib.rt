@@ -6,5 +6,5 @@ mod judging;
 mod limits;
 
 pub use errors::{Device, Reference};
-pub use judging::{Judged, Verdict, judge};
+pub use judging::{Verdict, judge};
 pub use limits::Limits;
