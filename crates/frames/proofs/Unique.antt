@@ -2,20 +2,23 @@
 use mathlib.Core.Path.{◌≡◌, refl, sym, ap, ◌∙◌}
 use mathlib.Core.List.{List}
 use Prim.Native.Nat.{ℕ}
+use Rattle.std.specs.Prelude.{Result, Ok, Err}
+use Rattle.refusals.specs.declared.Refused.{Refused}
+use Rattle.refusals.proofs.Numbers.{refused_of, again}
 use Rattle.frames.specs.declared.bench.Configured.{Configured}
 use Rattle.frames.specs.declared.bench.Tag.{Tag}
 use Rattle.frames.specs.declared.Frame.{Frame}
-use Rattle.frames.specs.declared.Frame.TheVariants.{Refused, Reads}
 use Rattle.frames.specs.Reading.{Said, refused, figures, said, Reading}
 
 -- the answer that a case of `said` stands for
-abbrev unsaid : Said → Frame
-unsaid (refused number) = Refused number
-unsaid (figures device quality) = Reads device quality
+abbrev unsaid : Said → Result Frame Refused
+unsaid (refused number) = Err (refused_of number)
+unsaid (figures device quality) = Ok (record { device = device; quality = quality })
 
-unsaid_said : (r : Frame) → unsaid (said r) ≡ r
-unsaid_said (Refused number) = refl
-unsaid_said (Reads device quality) = refl
+unsaid_said : (r : Result Frame Refused) → unsaid (said r) ≡ r
+unsaid_said (Err r) = ap Err (again r)
+unsaid_said (Ok f) = refl
 
-pub read_frame_unique : (f : List ℕ) (configured : Configured) (tag : Tag) (r q : Frame) → Reading f configured tag r → Reading f configured tag q → r ≡ q
+pub read_frame_unique : (f : List ℕ) (configured : Configured) (tag : Tag) (r q : Result Frame Refused)
+    → Reading f configured tag r → Reading f configured tag q → r ≡ q
 read_frame_unique f configured tag r q e d = sym (unsaid_said r) ∙ ap unsaid (e ∙ sym d) ∙ unsaid_said q

@@ -1,6 +1,7 @@
 -- Document 02, CR 4: the reading of a frame, and its refusals in their order.
-use Rattle.std.specs.Prelude.{◌≡◌, not, ◌||◌, List, [], ◌∷◌, ℕ, eqb, ltb, length}
-use Rattle.refusals.specs.Refusals.{Refusal, unless_refused}
+use Rattle.std.specs.Prelude.{◌≡◌, Result, Ok, Err, not, ◌||◌, List, [], ◌∷◌, ℕ, eqb, ltb, length}
+use Rattle.refusals.specs.declared.Refused.{Refused}
+use Rattle.refusals.specs.Refusals.{Refusal, unless_refused, number_of}
 use Rattle.sampling.specs.Tags.{served_rate, no_nominal}
 use Rattle.verdict.specs.declared.errors.Device.{Device}
 use Rattle.frames.specs.Checksum.{checksum}
@@ -9,7 +10,6 @@ use Rattle.frames.specs.Tags.{agrees}
 use Rattle.frames.specs.declared.bench.Configured.{Configured}
 use Rattle.frames.specs.declared.bench.Tag.{Tag}
 use Rattle.frames.specs.declared.Frame.{Frame}
-use Rattle.frames.specs.declared.Frame.TheVariants.{Refused, Reads}
 
 -- ---- the refusals; 6 is `sampling/no_nominal`
 
@@ -64,9 +64,9 @@ pub data Said : Type 0 where
   figures : (device : Device) (quality : ℕ) → Said
 
 -- each case of the answer
-abbrev pub said : Frame → Said
-said (Refused number) = refused number
-said (Reads device quality) = figures device quality
+abbrev pub said : Result Frame Refused → Said
+said (Err r) = refused (number_of r)
+said (Ok f) = figures f.device f.quality
 
 -- the frame's four figures as they are, and its time quality
 abbrev pub figures_in : List ℕ → Said
@@ -77,5 +77,5 @@ unfoldable pub reading : List ℕ → Configured → Tag → Said
 reading f configured tag = unless_refused (read_refusals f configured tag) refused (figures_in f)
 
 -- what `read_frame` promises
-abbrev pub Reading : List ℕ → Configured → Tag → Frame → Type 0
+abbrev pub Reading : List ℕ → Configured → Tag → Result Frame Refused → Type 0
 Reading f configured tag r = said r ≡ reading f configured tag
