@@ -1,12 +1,11 @@
 -- Document 01, "The report": the whole-run measurement takes three lent runs, a centre and a nominal frequency.
-use Rattle.std.specs.Prelude.{◌≡◌, not, ◌||◌, List, [], ◌∷◌, ℕ, ◌+◌, ◌-◌, eqb, ltb, length, get_or, ℤ, pos, Float}
+use Rattle.std.specs.Prelude.{◌≡◌, Result, Ok, Err, not, ◌||◌, List, [], ◌∷◌, ℕ, ◌+◌, ◌-◌, eqb, ltb, length, get_or, ℤ, pos, Float}
 use Rattle.model.specs.declared.filter.Sample.{Sample}
 use Rattle.model.specs.declared.report.Figures.{Figures}
 use Rattle.model.specs.Report.{figures_at, three_phase}
-use Rattle.refusals.specs.Refusals.{Refusal, unless_refused}
+use Rattle.refusals.specs.declared.Refused.{Refused}
+use Rattle.refusals.specs.Refusals.{Refusal, unless_refused, number_of}
 use Rattle.sampling.specs.Tags.{no_nominal, nominal_of}
-use Rattle.runs.specs.declared.Measured.{Measured}
-use Rattle.runs.specs.declared.Measured.TheVariants.{Refused, Given}
 
 -- The first sample is index 0: the sample at index n of the three runs
 abbrev pub sample_at : List ℤ → List ℤ → List ℤ → ℕ → Sample
@@ -22,9 +21,9 @@ abbrev pub said_figures : Figures → Said
 said_figures f = figures f.re f.im f.d1 f.d2 f.mark f.re_peak f.im_peak f.deviation f.rocof
 
 -- what an answer says, case by case
-abbrev pub said : Measured → Said
-said (Refused number) = refused number
-said (Given f) = said_figures f
+abbrev pub said : Result Figures Refused → Said
+said (Err r) = refused (number_of r)
+said (Ok f) = said_figures f
 
 -- 16: the three runs differ in length
 abbrev pub differ : List ℤ → List ℤ → List ℤ → Refusal
@@ -45,5 +44,5 @@ measured a b c centre nominal =
     (said_figures (figures_at three_phase (nominal_of nominal) (sample_at a b c) centre))
 
 -- what `measure` promises
-abbrev pub RunMeasuring : List ℤ → List ℤ → List ℤ → ℕ → ℕ → Measured → Type 0
+abbrev pub RunMeasuring : List ℤ → List ℤ → List ℤ → ℕ → ℕ → Result Figures Refused → Type 0
 RunMeasuring a b c centre nominal r = said r ≡ measured a b c centre nominal

@@ -7,13 +7,7 @@ ghost use Rattle.runs.specs.Runs.{sample_at, differ, no_centre, RunMeasuring};
 ghost use Rattle.runs.specs.Inside.{samples_from};
 
 use model::Figures;
-
-// The report without a tag, or a refusal.
-#[derive(Clone, Copy)]
-pub enum Measured {
-    Refused(u8),
-    Given(Figures),
-}
+use refusals::Refused;
 
 // Whether the three runs differ in length.
 fn are_unequal(a: &[i16], b: &[i16], c: &[i16]) -> bool
@@ -51,25 +45,31 @@ fn window_from(a: &[i16], b: &[i16], c: &[i16], first: usize) -> [i16; 93]
     window
 }
 
-// The figures at a centre of three runs, the first sample being index 0; refused 6, 16, 17.
+// The report without a tag, at a centre of three runs whose first sample is index 0; refused 6, 16, 17.
 #[tactic(auto, unfolding(crate::specs::Runs::measured))]
-pub fn measure(a: &[i16], b: &[i16], c: &[i16], centre: usize, nominal: u8) -> Measured
+pub fn measure(
+    a: &[i16],
+    b: &[i16],
+    c: &[i16],
+    centre: usize,
+    nominal: u8,
+) -> Result<Figures, Refused>
     ensures { RunMeasuring a.now b.now c.now centre nominal result }
 {
     let served = sampling::served_nominal(nominal);
     let differ = are_unequal(a, b, c);
     let off = is_off_centre(a, centre);
     if !served {
-        return Measured::Refused(6);
+        return Err(Refused::Nominal);
     }
     if differ {
-        return Measured::Refused(16);
+        return Err(Refused::RunsDiffer);
     }
     if off {
-        return Measured::Refused(17);
+        return Err(Refused::OffCentre);
     }
     let first = centre - 15;
     let window = window_from(a, b, c, first);
     let frequency = sampling::nominal_of(nominal);
-    Measured::Given(model::measure(&window, first, frequency))
+    Ok(model::measure(&window, first, frequency))
 }
