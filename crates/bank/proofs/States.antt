@@ -10,6 +10,7 @@ use Rattle.feed.specs.declared.Head.{Head}
 use Rattle.sampling.specs.Sampling.{sampling_of}
 use Rattle.feed.specs.Ring.{unserved, uneven, early, faulty}
 use Rattle.feed.proofs.Sound.{neither}
+use Rattle.std.specs.Prelude.{Some}
 use Rattle.bank.specs.declared.damage.Damage.TheVariants.{Stray, Other}
 use Rattle.bank.specs.Slot.{state_in, head_in, places_in, tail_in}
 use Rattle.bank.specs.Damage.{blank, is_open, flag_over, stray, is_damaged, only_stray, damage_of}
@@ -69,15 +70,15 @@ stray_damaged s e = let o = only_stray_lem s e in open_damaged s o.one ∙ or_ei
 
 -- a damaged slot, by whether it is open and its numbers are faulty
 module _ (s : List ℕ) (damaged : is_damaged s ≡ true) where
-  pub shut_other : (state_in s ≡ 1 → ⊥) → damage_of s ≡ Other
+  pub shut_other : (state_in s ≡ 1 → ⊥) → damage_of s ≡ Some Other
   unfolding damage_of only_stray
   shut_other shut = rw (damaged, ne_eqb (state_in s) 1 shut)
 
-  pub faulty_other : faulty (head_in s) ≡ true → damage_of s ≡ Other
+  pub faulty_other : faulty (head_in s) ≡ true → damage_of s ≡ Some Other
   unfolding damage_of only_stray
-  faulty_other e = rw (damaged, e) (ap (λ (t : Bool). cond t Stray Other) (and-false (is_open s && stray s)))
+  faulty_other e = rw (damaged, e) (ap (λ (t : Bool). Some (cond t Stray Other)) (and-false (is_open s && stray s)))
 
-  pub open_stray : state_in s ≡ 1 → faulty (head_in s) ≡ false → damage_of s ≡ Stray
+  pub open_stray : state_in s ≡ 1 → faulty (head_in s) ≡ false → damage_of s ≡ Some Stray
   unfolding damage_of only_stray
   open_stray one e = let some = sym (open_damaged s one ∙ or_not (stray s) e) ∙ damaged in rw (damaged, one, some, e)
 

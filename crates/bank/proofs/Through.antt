@@ -9,8 +9,8 @@ use lib.ListN.{length, drop}
 use Rattle.model.specs.declared.filter.Sample.{Sample}
 use Rattle.model.specs.declared.report.Phases.{Phases}
 use Rattle.feed.specs.declared.Feed.{Feed}
-use Rattle.feed.specs.declared.Answer.{Answer}
-use Rattle.feed.specs.declared.Answer.TheVariants.{Refused, Taken, Reported}
+use Rattle.std.specs.Prelude.{Ok, Option, Some, None}
+use Rattle.feed.specs.declared.Report.{Report}
 use Rattle.feed.specs.declared.Pushed.{Pushed}
 use Rattle.feed.specs.Answers.{Said, refused, done, taken, taken_with, said, tagged}
 use Rattle.feed.specs.History.{History, centre_of, is_due}
@@ -42,11 +42,10 @@ left_answered h k before written = go (is_due h)
     go true = refl
     go false = refl
 
--- nor is one of the second or third variant, the `_` of the code's match
-pub left_taken : (a : Answer) (before written : List ℕ) → ((number : ℕ) → a ≡ Refused number → ⊥) → left (said a) before written ≡ written
-left_taken (Refused number) before written e = absurd (e number refl)
-left_taken Taken before written e = refl
-left_taken (Reported r) before written e = refl
+-- nor is one that the code takes for none
+pub left_taken : (a : Option Report) (before written : List ℕ) → left (said (Ok a)) before written ≡ written
+left_taken None before written = refl
+left_taken (Some r) before written = refl
 
 -- the slot with what a push writes: the numbers, the sample in the next place, and the kept phases
 abbrev pub written : List ℕ → Sample → Feed → List ℕ

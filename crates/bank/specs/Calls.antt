@@ -1,16 +1,15 @@
 -- Document 01, "The bank" and "Refusal numbers": what each call answers and leaves.
-use Rattle.std.specs.Prelude.{◌≡◌, not, List, [], ◌∷◌, ℕ, eqb, ltb, length}
+use Rattle.std.specs.Prelude.{Result, Ok, Err, Option, ◌≡◌, not, List, [], ◌∷◌, ℕ, eqb, ltb, length}
 use Rattle.model.specs.declared.filter.Sample.{Sample}
-use Rattle.refusals.specs.Refusals.{Refusal, unless_refused}
+use Rattle.refusals.specs.declared.Refused.{Refused}
+use Rattle.refusals.specs.Refusals.{Refusal, unless_refused, number_of}
 use Rattle.feed.specs.declared.Feed.{Feed}
-use Rattle.feed.specs.declared.Answer.{Answer}
+use Rattle.feed.specs.declared.Report.{Report}
 use Rattle.sampling.specs.Tags.{no_nominal, no_rate}
 use Rattle.feed.specs.Answers.{Said, refused, done, said}
 use Rattle.feed.specs.Kept.{answered_from}
 use Rattle.feed.specs.Places.{zeros}
 use Rattle.feed.specs.Ring.{opened, stored, history_of, end_of_time_of}
-use Rattle.bank.specs.declared.Settled.{Settled}
-use Rattle.bank.specs.declared.Settled.TheVariants.{Refused, Done}
 use Rattle.bank.specs.Slot.{slot_at, with_slot, head_in, feed_in, slot_of, free_slot}
 use Rattle.bank.specs.Damage.{is_free, is_open, is_damaged}
 
@@ -24,9 +23,9 @@ abbrev pub refusing : List ℕ → ℕ → Outcome
 refusing bank number = record { answer = refused number; bank = bank }
 
 -- Clearing, opening and closing, not refused, answer "done"
-abbrev pub settled : Settled → Said
-settled (Refused number) = refused number
-settled Done = done
+abbrev pub settled : Result (Unit {0}) Refused → Said
+settled (Err r) = refused (number_of r)
+settled (Ok u) = done
 
 -- ---- the refusals
 
@@ -104,17 +103,17 @@ closed_at bank slot = unless_refused (close_refusals bank slot) (refusing bank) 
 -- ---- what the functions promise: the answer, and the bytes of the bank when they end
 
 -- `clear`
-abbrev pub Clearing : List ℕ → Settled → List ℕ → Type 0
+abbrev pub Clearing : List ℕ → Result (Unit {0}) Refused → List ℕ → Type 0
 Clearing before r after = record { answer = settled r; bank = after } ≡ cleared before
 
 -- `open`
-abbrev pub Opening : List ℕ → ℕ → ℕ → ℕ → ℕ → Settled → List ℕ → Type 0
+abbrev pub Opening : List ℕ → ℕ → ℕ → ℕ → ℕ → Result (Unit {0}) Refused → List ℕ → Type 0
 Opening before slot nominal rate soc r after = record { answer = settled r; bank = after } ≡ opened_at before slot nominal rate soc
 
 -- `push`
-abbrev pub Pushing : List ℕ → ℕ → Sample → Answer → List ℕ → Type 0
+abbrev pub Pushing : List ℕ → ℕ → Sample → Result (Option Report) Refused → List ℕ → Type 0
 Pushing before slot s r after = record { answer = said r; bank = after } ≡ pushed_at before slot s
 
 -- `close`
-abbrev pub Closing : List ℕ → ℕ → Settled → List ℕ → Type 0
+abbrev pub Closing : List ℕ → ℕ → Result (Unit {0}) Refused → List ℕ → Type 0
 Closing before slot r after = record { answer = settled r; bank = after } ≡ closed_at before slot

@@ -1,8 +1,8 @@
 -- Document 01, "The bank", with CR 3 and CR 6: when a slot is damaged, and when only by stray bytes or flags over 1.
-use Rattle.std.specs.Prelude.{Bool, true, cond, not, ◌&&◌, ◌||◌, List, [], ◌∷◌, ℕ, ◌*◌, eqb, ltb, get_or, drop}
+use Rattle.std.specs.Prelude.{Option, Some, None, Bool, true, cond, not, ◌&&◌, ◌||◌, List, [], ◌∷◌, ℕ, ◌*◌, eqb, ltb, get_or, drop}
 use Rattle.feed.specs.Ring.{faulty}
 use Rattle.bank.specs.declared.damage.Damage.{Damage}
-use Rattle.bank.specs.declared.damage.Damage.TheVariants.{None, Stray, Other}
+use Rattle.bank.specs.declared.damage.Damage.TheVariants.{Stray, Other}
 use Rattle.bank.specs.Slot.{state_in, head_in, places_in, tail_in}
 
 -- every byte is zero
@@ -35,5 +35,5 @@ unfoldable pub only_stray : List ℕ → Bool
 only_stray s = is_open s && stray s && not (faulty (head_in s))
 
 -- how a slot is damaged: not at all, only by stray bytes or flags over 1, or otherwise
-unfoldable pub damage_of : List ℕ → Damage
-damage_of s = cond (is_damaged s) (cond (only_stray s) Stray Other) None
+unfoldable pub damage_of : List ℕ → Option Damage
+damage_of s = cond (is_damaged s) (Some (cond (only_stray s) Stray Other)) None

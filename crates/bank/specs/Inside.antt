@@ -1,14 +1,15 @@
 -- What the functions inside ask and promise of a slot's 256 bytes. A reader of the calls' promises needs nothing of this.
-use Rattle.std.specs.Prelude.{◌≡◌, List, [], ◌∷◌, ◌++◌, ℕ, ◌*◌, ◌≤◌, length, take, drop}
-use Rattle.refusals.specs.Refusals.{unless_refused}
-use Rattle.bank.specs.declared.slot.Found.{Found}
-use Rattle.bank.specs.declared.slot.Found.TheVariants.{Refused, At}
+use Rattle.std.specs.Prelude.{Result, Ok, Err, ◌≡◌, ◌⊎◌, List, [], ◌∷◌, ◌++◌, ℕ, ◌*◌, ◌≤◌, length, take, drop}
+use Rattle.std.specs.Borrow.{MutBor}
+use Rattle.std.specs.Fn.{Once, FnOnceReturnsAtMut}
+use Rattle.refusals.specs.declared.Refused.{Refused}
+use Rattle.refusals.specs.Refusals.{unless_refused, by_number}
 use Rattle.bank.specs.Slot.{slot_at, with_slot}
 use Rattle.bank.specs.Calls.{wrong_length, no_slot}
 
 -- what `find` promises: the refusal that is due, 1 or 2, or where the slot begins
-pub record Finds (bank : List ℕ) (slot : ℕ) (r : Found) : Type 0 where
-  pub is : r ≡ unless_refused (wrong_length bank ∷ no_slot slot ∷ []) Refused (At (256 * slot))
+pub record Finds (bank : List ℕ) (slot : ℕ) (r : Result ℕ Refused) : Type 0 where
+  pub is : by_number r ≡ unless_refused (wrong_length bank ∷ no_slot slot ∷ []) Err (Ok (256 * slot))
 
 -- these bytes are a slot of a bank of 4096 bytes
 pub record StandsIn (bank : List ℕ) (slot : ℕ) (s : List ℕ) : Type 0 where
@@ -23,3 +24,10 @@ Lent promise before after = (bank : List ℕ) (slot : ℕ) → StandsIn bank slo
 -- the bytes with a part put over k of them, from byte n on
 abbrev pub with_part : ℕ → ℕ → List ℕ → List ℕ → List ℕ
 with_part n k part s = take n s ++ (part ++ drop k (drop n s))
+
+-- what `at_slot` promises of a step: it was run on the slot, which stands in the bank, and its answer is given, with what it left in the slot's place;
+-- or else the slot was not found, and nothing changes
+abbrev pub Steps : {F T : Type 0} → Once F (MutBor (List ℕ) × Unit {0}) (Result T Refused × (MutBor (List ℕ) × Unit {0})) → F → List ℕ → ℕ → Result T Refused → List ℕ → Type 0
+Steps g step bank slot r after =
+    ((number : Refused) × Finds bank slot (Err number) × (r ≡ Err number) × (after ≡ bank))
+    ⊎ ((s : List ℕ) × StandsIn bank slot (slot_at bank slot) × FnOnceReturnsAtMut g step (slot_at bank slot) r s × (after ≡ with_slot bank slot s))

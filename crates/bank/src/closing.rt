@@ -1,23 +1,21 @@
 // Closing, of a slot by itself: refused 3, 5.
-ghost use Rattle.std.specs.Prelude.{◌≡◌, length};
 ghost use Rattle.bank.specs.Calls.{Closing};
 ghost use Rattle.bank.specs.Inside.{Lent};
 
-use crate::Settled;
 use crate::damage::is_damaged;
 use crate::slot::zero;
+use refusals::Refused;
 
 // An open slot is zeroed.
-pub(crate) fn close_slot(slot: &mut [u8]) -> Settled
-    requires { length slot.old ≡ 256 }
+pub(crate) fn close_slot(slot: &mut [u8; 256]) -> Result<(), Refused>
     ensures { Lent (λ bank n after. Closing bank n result after) slot.old slot.new }
 {
     if is_damaged(slot) {
-        return Settled::Refused(3);
+        return Err(Refused::Damaged);
     }
     if slot[0] == 0 {
-        return Settled::Refused(5);
+        return Err(Refused::NotOpen);
     }
     zero(slot);
-    Settled::Done
+    Ok(())
 }

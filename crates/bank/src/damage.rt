@@ -1,14 +1,12 @@
 // Document 01, "The bank", with CR 3 and CR 6: when a slot is damaged, and when only by stray bytes or flags over 1.
-ghost use Rattle.std.specs.Prelude.{◌≡◌, cond, ◌+◌, ◌*◌, ◌≤◌, ltb, length};
+ghost use Rattle.std.specs.Prelude.{◌≡◌, cond, ◌+◌, ◌*◌, ◌≤◌, ltb};
 ghost use Rattle.bank.specs.Damage.{blank, stray, is_damaged, damage_of};
 
 use crate::slot::read_head;
 
-// How a slot is damaged.
+// How a damaged slot is damaged.
 #[derive(Clone, Copy)]
 pub enum Damage {
-    // not at all
-    None,
     // open, and only by nonzero bytes in unfilled places or after byte 211, or by a flag over 1 (CR 6)
     Stray,
     // otherwise
@@ -40,8 +38,7 @@ fn unfilled_from(held: u8) -> usize
 }
 
 // Whether a byte is nonzero in an unfilled place or after byte 211, or a no-phase flag is over 1 (CR 6).
-pub(crate) fn is_stray(s: &[u8]) -> bool
-    requires { length s.now ≡ 256 }
+pub(crate) fn is_stray(s: &[u8; 256]) -> bool
     ensures { result ≡ stray s.now }
 {
     let from = unfilled_from(s[3]);
@@ -52,8 +49,7 @@ pub(crate) fn is_stray(s: &[u8]) -> bool
 }
 
 // Whether a slot is damaged.
-pub(crate) fn is_damaged(s: &[u8]) -> bool
-    requires { length s.now ≡ 256 }
+pub(crate) fn is_damaged(s: &[u8; 256]) -> bool
     ensures { result ≡ is_damaged s.now }
 {
     let state = s[0];
@@ -69,20 +65,20 @@ pub(crate) fn is_damaged(s: &[u8]) -> bool
     is_stray(s)
 }
 
-// How the 256 bytes of a slot are damaged.
-pub fn damage_of(slot: [u8; 256]) -> Damage
+// How the 256 bytes of a slot are damaged, if they are.
+pub fn damage_of(slot: [u8; 256]) -> Option<Damage>
     ensures { result ≡ damage_of slot }
 {
     if !is_damaged(&slot) {
-        return Damage::None;
+        return None;
     }
     if slot[0] != 1 {
-        return Damage::Other;
+        return Some(Damage::Other);
     }
     let head = read_head(&slot);
     if head.is_faulty() {
-        Damage::Other
+        Some(Damage::Other)
     } else {
-        Damage::Stray
+        Some(Damage::Stray)
     }
 }

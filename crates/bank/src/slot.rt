@@ -2,30 +2,39 @@
 ghost use Rattle.std.specs.Prelude.{◌≡◌, ◌+◌, ◌*◌, ◌≤◌, ◌<◌, length, drop, ◌++◌};
 ghost use Rattle.feed.specs.Places.{zeros, place_of};
 ghost use Rattle.bank.specs.Slot.{head_in, head_bytes, places_in, phase_in, kept_in, flag_of, kept_bytes, feed_in, worked_out_in};
-ghost use Rattle.bank.specs.Inside.{Finds, with_part};
+ghost use Rattle.bank.specs.Inside.{Finds, Steps, with_part};
 
 use bits::{be16, be32};
 use feed::{Feed, Head, place_of};
 use model::{Angle, Phase, Phases, Sample};
+use refusals::Refused;
 
-// Where a slot begins in its bank, or the refusal.
-#[derive(Clone, Copy)]
-pub(crate) enum Found {
-    Refused(u8),
-    At(usize),
-}
-
-// The slot of that number in a bank: refused 1, 2.
-pub(crate) fn find(bank: &[u8], slot: u8) -> Found
+// Where the slot of that number begins in a bank: refused 1, 2.
+fn find(bank: &[u8], slot: u8) -> Result<usize, Refused>
     ensures { Finds bank.now slot result }
 {
     if bank.len() != 4096 {
-        return Found::Refused(1);
+        return Err(Refused::BankLength);
     }
     if slot > 15 {
-        return Found::Refused(2);
+        return Err(Refused::NoSlot);
     }
-    Found::At(256 * (slot as usize))
+    Ok(256 * (slot as usize))
+}
+
+// A step on the 256 bytes of a slot, which are lent to it: refused 1, 2, and then nothing changes; else the step answers.
+pub(crate) fn at_slot<T, F: FnOnce(&mut [u8; 256]) -> Result<T, Refused>>(
+    bank: &mut [u8],
+    slot: u8,
+    step: F,
+) -> Result<T, Refused>
+    requires { F.IsAlwaysCallable step }
+    ensures { Steps F.FnOnce step bank.old slot result bank.new }
+{
+    let start = find(bank, slot)?;
+    let (_, rest) = bank.split_at_mut(start);
+    let (bytes, _) = rest.split_first_chunk_mut().unwrap();
+    step(bytes)
 }
 
 // Zeroes every byte.
@@ -48,8 +57,7 @@ fn put(to: &mut [u8], from: &[u8])
 }
 
 // The numbers of an open slot, bytes 1 to 10.
-pub(crate) fn read_head(s: &[u8]) -> Head
-    requires { length s.now ≡ 256 }
+pub(crate) fn read_head(s: &[u8; 256]) -> Head
     ensures { result ≡ head_in s.now }
 {
     Head {
@@ -63,8 +71,7 @@ pub(crate) fn read_head(s: &[u8]) -> Head
 }
 
 // The thirty-one places, bytes 11 to 196.
-fn read_places(s: &[u8]) -> [u8; 186]
-    requires { length s.now ≡ 256 }
+fn read_places(s: &[u8; 256]) -> [u8; 186]
     ensures { result ≡ places_in s.now }
 {
     let mut places = [0u8; 186];
@@ -73,8 +80,8 @@ fn read_places(s: &[u8]) -> [u8; 186]
 }
 
 // The phase whose angle is in four bytes from one on, and whose no-phase flag is in another.
-fn phase_at(s: &[u8], at: usize, flag: usize) -> Phase
-    requires { (at + 4 ≤ length s.now) × (flag < length s.now) }
+fn phase_at(s: &[u8; 256], at: usize, flag: usize) -> Phase
+    requires { (at + 4 ≤ 256) × (flag < 256) }
     ensures { result ≡ phase_in s.now at flag }
 {
     let parts = be32(s[at], s[at + 1], s[at + 2], s[at + 3]);
@@ -84,8 +91,7 @@ fn phase_at(s: &[u8], at: usize, flag: usize) -> Phase
 }
 
 // The kept phases: angles in bytes 197 to 208, flags in bytes 209 to 211 (CR 6).
-fn read_kept(s: &[u8]) -> Phases
-    requires { length s.now ≡ 256 }
+fn read_kept(s: &[u8; 256]) -> Phases
     ensures { result ≡ kept_in s.now }
 {
     let p = phase_at(s, 197, 209);
@@ -95,8 +101,7 @@ fn read_kept(s: &[u8]) -> Phases
 }
 
 // The feed that an open slot keeps.
-pub(crate) fn read_feed(s: &[u8]) -> Feed
-    requires { length s.now ≡ 256 }
+pub(crate) fn read_feed(s: &[u8; 256]) -> Feed
     ensures { result ≡ feed_in s.now }
 {
     let head = read_head(s);
@@ -158,8 +163,8 @@ fn kept_bytes(kept: Phases) -> [u8; 15]
 }
 
 // Bytes put over as many of a slot, from one on. The other bytes stay.
-fn put_part(s: &mut [u8], from: usize, part: &[u8])
-    requires { from + length part.now ≤ length s.old }
+fn put_part(s: &mut [u8; 256], from: usize, part: &[u8])
+    requires { from + length part.now ≤ 256 }
     ensures { s.new ≡ with_part from (length part.now) part.now s.old }
 {
     let to = from + part.len();
@@ -167,8 +172,7 @@ fn put_part(s: &mut [u8], from: usize, part: &[u8])
 }
 
 // The numbers go into a slot, as bytes 0 to 10 of an open one. The other bytes stay.
-pub(crate) fn put_head(s: &mut [u8], h: Head)
-    requires { length s.old ≡ 256 }
+pub(crate) fn put_head(s: &mut [u8; 256], h: Head)
     ensures { s.new ≡ head_bytes h ++ drop 11 s.old }
 {
     let head = head_bytes(h);
@@ -176,8 +180,7 @@ pub(crate) fn put_head(s: &mut [u8], h: Head)
 }
 
 // The kept phases go into a slot. The other bytes stay.
-fn put_kept(s: &mut [u8], kept: Phases)
-    requires { length s.old ≡ 256 }
+fn put_kept(s: &mut [u8; 256], kept: Phases)
     ensures { s.new ≡ with_part 197 15 (kept_bytes kept) s.old }
 {
     let bytes = kept_bytes(kept);
@@ -185,8 +188,8 @@ fn put_kept(s: &mut [u8], kept: Phases)
 }
 
 // What a push changes goes back into the slot: the numbers, the sample in its place, and the kept phases. The other bytes stay.
-pub(crate) fn put_back(s: &mut [u8], place: u8, h: Head, x: Sample, kept: Phases)
-    requires { (length s.old ≡ 256) × (place ≤ 30) }
+pub(crate) fn put_back(s: &mut [u8; 256], place: u8, h: Head, x: Sample, kept: Phases)
+    requires { place ≤ 30 }
     ensures { s.new ≡ with_part 197 15 (kept_bytes kept) (with_part (11 + 6 * place) 6 (place_of x) (head_bytes h ++ drop 11 s.old)) }
 {
     let six = place_of(x);

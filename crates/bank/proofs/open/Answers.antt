@@ -1,26 +1,11 @@
--- `bank::open` meets its contract: where the slot is found, by what is done to the slot by itself. Assumes nothing.
+-- `bank::open` meets its contract: by what is done to the slot by itself. Assumes nothing.
 use borrow.Author.Rules.{rules}
-use mathlib.Core.Path.{sym}
-use native.Mathlib.Omega.{arith}
+use mathlib.Core.Path.{refl}
+use Rattle.bank.specs.Calls.{settled}
 use Rattle.bank.specs.Calls.{opened_at}
-use Rattle.bank.proofs.Found.{not_found, stands}
+use Rattle.bank.proofs.Found.{answered}
 use Rattle.bank.proofs.open.Goals as goal
 
-pub overflow_add-end : goal.overflow_add-end
-overflow_add-end c =
-    let f = stands c.find.ensures c.in-At.is in
-    omega arith
-
-pub slice_bounds-open_slot-end : goal.slice_bounds-open_slot-end
-slice_bounds-open_slot-end c =
-    let f = stands c.find.ensures c.in-At.is in
-    search rules
-
-pub returns-in-Refused : goal.returns-in-Refused
+pub returns : goal.returns
 unfolding opened_at
-returns-in-Refused c = sym (not_found _ c.find.ensures c.in-Refused.is)
-
-pub returns-in-At : goal.returns-in-At
-returns-in-At c =
-    let f = stands c.find.ensures c.in-At.is in
-    rw f.back (c.open_slot.ensures _ _ f.there)
+returns c = answered settled (λ b n. opened_at b n c.args.nominal c.args.rate c.args.soc) _ (λ e. refl) refl c.at_slot.ensures (λ p q k. search rules)

@@ -1,5 +1,7 @@
 -- `bank::closing::close_slot` meets its contract. Assumes nothing.
-use mathlib.Core.Path.{sym, ◌∙◌, ap}
+use mathlib.Core.Path.{◌≡◌, sym, ◌∙◌, ap}
+use native.Mathlib.Omega.{arith}
+use lib.ListN.{length}
 use borrow.Author.Tests.{eq-eqb, ne_eqb}
 use Rattle.feed.specs.Answers.{done}
 use Rattle.feed.specs.Places.{zeros}
@@ -30,7 +32,7 @@ pub returns : goal.returns
 unfolding closed_at free_slot
 returns c =
     λ bank slot l.
-    let free = c.zero.ensures ∙ ap zeros c.requires in
+    let free = c.zero.ensures ∙ ap zeros (let n : length c.args.slot.now ≡ 256 = omega arith in n) in
     (λ i. record { answer = done; bank = with_slot bank slot (free i) })
     ∙ sym (
     inside l _ _ _

@@ -1,5 +1,6 @@
 -- `bank::damage::is_stray` meets its contract. Assumes nothing.
 use mathlib.Core.Path.{◌∙◌, ap}
+use native.Mathlib.Omega.{arith}
 use Prim.Native.Nat.{ℕ, ◌-◌}
 use lib.ListN.{get_or, take, drop}
 use Rattle.bank.specs.Slot.{head_in}
@@ -12,7 +13,7 @@ unfolding stray flag_over head_in
 returns c =
     let from = c.unfilled_from-from in
     let s = c.args.s.now in
-    let scan = ap (λ (n : ℕ). take (197 - n) (drop n s)) from.ensures.0 ∙ unfilled_scan s c.requires (get_or s 3 0) in
+    let scan = ap (λ (n : ℕ). take (197 - n) (drop n s)) from.ensures.0 ∙ unfilled_scan s (omega arith) (get_or s 3 0) in
     let first = c.is_blank-unfilled.ensures ∙ ap blank scan in
-    let rest = c.is_blank-rest.ensures ∙ ap blank (tail_scan s c.requires) in
+    let rest = c.is_blank-rest.ensures ∙ ap blank (tail_scan s (omega arith)) in
     rw (first, rest)

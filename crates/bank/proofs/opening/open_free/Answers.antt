@@ -2,10 +2,8 @@
 use mathlib.Core.Path.{sym, ◌∙◌, ap}
 use mathlib.Core.Bool.{Bool, not, ◌||◌}
 use lib.Dec.{eqb}
-use lib.ListN.{length}
 use Rattle.feed.specs.Answers.{done}
 use Rattle.bank.specs.Slot.{with_slot}
-use Rattle.bank.proofs.Keeping.{free_whole}
 use Rattle.bank.proofs.Free.{opened_slot, at_free}
 use Rattle.bank.proofs.Lent.{pass, stop, unaltered}
 use Rattle.bank.proofs.opening.open_free.Goals as goal
@@ -24,9 +22,6 @@ returns-then-not-served_rate-rate c =
     ∙ pass _ _ (ap not (sym c.served_nominal.ensures ∙ c.if-not-served_nominal.false))
     ∙ stop _ _ (ap not (ap (λ (t : Bool). t || eqb c.args.rate 0) (sym c.served_rate.ensures) ∙ c.if-not-served_rate-rate.true))
     )
-
-pub put_head-requires : goal.put_head-requires
-put_head-requires c = ap length c.requires ∙ free_whole
 
 pub returns : goal.returns
 returns c =

@@ -1,5 +1,6 @@
 -- `bank::opening::open_slot` meets its contract: a slot that is not damaged and not open is all zero. Assumes nothing.
 use mathlib.Core.Path.{sym, ◌∙◌}
+use native.Mathlib.Omega.{arith}
 use borrow.Author.Tests.{eq-eqb}
 use Rattle.bank.specs.Damage.{is_open, is_damaged}
 use Rattle.bank.specs.Calls.{opened_at}
@@ -25,4 +26,4 @@ returns-then-slot-eq1 c =
     )
 
 pub open_free-requires : goal.open_free-requires
-open_free-requires c = all_zero c.args.slot.now c.requires (sym c.is_damaged.ensures ∙ c.if-is_damaged.false) c.if-slot-eq1.false
+open_free-requires c = all_zero c.args.slot.now (omega arith) (sym c.is_damaged.ensures ∙ c.if-is_damaged.false) c.if-slot-eq1.false
