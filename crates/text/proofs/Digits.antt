@@ -2,16 +2,16 @@
 use Prim.Native.Nat.{ℕ, zero, suc, ◌+◌, ◌*◌, ◌-◌, ◌/◌, ◌%◌, ◌^◌, ◌≤◌, ◌<◌}
 use mathlib.Core.Path.{◌≡◌, refl, sym, ap, ◌∙◌, subst}
 use mathlib.Core.Bool.{Bool, cond}
-use mathlib.Core.List.{List, [], ◌∷◌, ◌++◌}
+use mathlib.Core.List.{List, [], ◌∷◌, ◌++◌, append_assoc}
 use native.Mathlib.Nat.{div-lt_iff_lt-mul, le-div_iff_mul-le, pow-suc}
 use native.Mathlib.Numerals.{add-one}
 use native.Mathlib.Omega.{arith}
 use borrow.Author.Tests.{lt-ltb, le-ltb}
 use lib.Dec.{lit<}
-use lib.ListN.{length, length-append, set}
-use lib.Seq.{sets}
+use lib.ListN.{length, length-append, set, drop}
+use Rattle.std.proofs.lemmas.List.{drop-set}
+use Rattle.std.specs.Prelude.{Option, None, Some, IfNone, IfSome, unwrap_or}
 use Rattle.text.specs.Text.{glyph, digits, decimal_up_to, decimal, hex_bytes}
-use Rattle.text.proofs.Sets.{sets_append, set_then_sets}
 
 pub length_digits : (b k n : ℕ) → length (digits b k n) ≡ k
 unfolding digits
@@ -19,15 +19,15 @@ length_digits b zero n = refl
 length_digits b (suc k) n = length-append (digits b k (n / b)) (glyph (n % b) ∷ []) ∙ ap (λ (m : ℕ). m + 1) (length_digits b k (n / b)) ∙ add-one k
 
 -- the digits are stored from the last to the first
-pub digit_stored : (l : List ℕ) (at b j m n : ℕ) → j ≡ suc m → sets (set l (at + m) (glyph (n % b))) at (digits b m (n / b)) ≡ sets l at (digits b j n)
+pub digit_stored : (b i n g : ℕ) (l : List ℕ) → 0 < i → i ≤ length l → g ≡ glyph (n % b)
+    → digits b (i - 1) (n / b) ++ drop (i - 1) (set l (i - 1) g) ≡ digits b i n ++ drop i l
 unfolding digits
-digit_stored l at b j m n e =
-    let t = digits b m (n / b) in
-    let k : length t ≡ m = length_digits b m (n / b) in
-    set_then_sets l at t (at + m) (glyph (n % b)) (omega arith)
-    ∙ ap (λ (i : ℕ). set (sets l at t) (at + i) (glyph (n % b))) (sym k)
-    ∙ sym (sets_append l at t (glyph (n % b) ∷ []))
-    ∙ ap (λ (i : ℕ). sets l at (digits b i n)) (sym e)
+digit_stored b i n g l p q e =
+    let m = i - 1 in
+    let s : i ≡ suc m = omega arith in
+    let left = drop-set l m g (omega arith) in
+    let after : m + 1 ≡ i = omega arith in
+    rw (left, after, e) (sym (append_assoc (digits b m (n / b)) (glyph (n % b) ∷ []) (drop i l)) ∙ ap (λ (k : ℕ). digits b k n ++ drop i l) (sym s))
 
 below : (k n : ℕ) → n < 10 ^ suc k → n / 10 < 10 ^ k
 below k n h = (div-lt_iff_lt-mul (lit< tt)).1 (subst (λ (x : ℕ). n < x) (pow-suc 10 k) h)
@@ -60,13 +60,10 @@ pub decimal_digits : (k n : ℕ) → n < 10 ^ suc k → (0 < k → 10 ^ k ≤ n)
 unfolding decimal
 decimal_digits k n h l = up_to_digits k (suc n) n (small k n l) h l
 
--- the same at r digits
-pub decimal_places : (r n : ℕ) → 0 < r → n < 10 ^ r → (1 < r → 10 ^ (r - 1) ≤ n) → decimal n ≡ digits 10 r n
-decimal_places zero n p h l = absurd (omega arith)
-decimal_places (suc k) n p h l = decimal_digits k n h (λ q. subst (λ (x : ℕ). 10 ^ x ≤ n) (less k) (l (omega arith)))
-  where
-    less : (k : ℕ) → suc k - 1 ≡ k
-    less k = omega arith
+-- the digits of n, from what `checked_ilog10` answers for it
+pub decimal_places : (n : ℕ) (o : Option ℕ) → IfNone o (n ≡ 0) → IfSome o (λ k. 10 ^ k ≤ n) → IfSome o (λ k. n < 10 * 10 ^ k) → decimal n ≡ digits 10 (unwrap_or o 0 + 1) n
+decimal_places n None z l h = decimal_digits 0 n (omega (arith, z)) (λ p. absurd (omega arith))
+decimal_places n (Some k) z l h = rw add-one (decimal_digits k n (omega (arith, pow-suc 10 k)) (λ p. l))
 
 pub length_hex : (l : List ℕ) → length (hex_bytes l) ≡ 2 * length l
 unfolding hex_bytes

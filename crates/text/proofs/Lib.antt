@@ -1,5 +1,4 @@
 -- The laws of `text`.
-pub mod Sets
 pub mod Digits
 pub mod Signs
 pub mod Writing

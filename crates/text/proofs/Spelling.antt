@@ -1,48 +1,22 @@
--- Bytes that are spelt one after another: what is left of them, put where the text ends now, gives the whole. Assumes nothing.
-use Prim.Native.Nat.{ℕ, ◌+◌, ◌*◌, ◌≤◌, ◌<◌}
-use mathlib.Core.Path.{◌≡◌, refl, sym, ap, ap₂, ◌∙◌}
-use mathlib.Core.List.{List, ◌∷◌}
-use native.Mathlib.Numerals.{add-one}
-use native.Mathlib.Omega.{arith}
-use lib.ListN.{length, drop, get_or, drop_of_length-le}
-use lib.Seq.{sets, drop-cons, length-sets}
+-- Bytes that are spelt one after another. Assumes nothing.
+use Rattle.std.proofs.Common.{ℕ, ◌+◌, ◌*◌, ◌-◌, ◌<◌, ◌≡◌, sym, ap, ◌∙◌, List, [], ◌∷◌, ◌++◌, length, take, drop, get_or, append_assoc, append-nil, arith}
+use Rattle.std.proofs.lemmas.List.{take_at, drop_at, drop-drop, take_more, length-take-le}
+use borrow.Rule.Slice.PartMut.{put_mid}
 use Rattle.text.specs.Text.{digits, hex_bytes}
-use Rattle.text.specs.Put.{Wrote}
-use Rattle.text.proofs.Digits.{length_digits, length_hex}
-use Rattle.text.proofs.Sets.{sets_append}
+use Rattle.text.proofs.Digits.{length_hex}
 
-pub record Spelling (all before : List ℕ) (at : ℕ) (now : List ℕ) (i j : ℕ) : Type 0 where
-  pub in_all : j ≤ length all
-  pub place : i ≡ at + 2 * j
-  pub same_length : length now ≡ length before
-  pub bytes : sets now i (hex_bytes (drop j all)) ≡ sets before at (hex_bytes all)
-
-pub start : (all before : List ℕ) (at : ℕ) → Spelling all before at before at 0
-start all before at = record { in_all = omega arith; place = omega arith; same_length = refl; bytes = refl }
-
-pub byte : {all before : List ℕ} {at : ℕ} {now new : List ℕ} {i j e : ℕ} → Spelling all before at now i j → j < length all
-    → Wrote 2 (digits 16 2 (get_or all j 0)) now i e new → Spelling all before at new e (j + 1)
+hex_push : (l : List ℕ) (b : ℕ) → hex_bytes (l ++ (b ∷ [])) ≡ hex_bytes l ++ digits 16 2 b
 unfolding hex_bytes
-byte {all} {before} {at} {now} {new} {i} {j} {e} s h w =
-    let text = digits 16 2 (get_or all j 0) in
-    let left : drop j all ≡ get_or all j 0 ∷ drop (j + 1) all = drop-cons all j 0 h ∙ ap (λ (n : ℕ). get_or all j 0 ∷ drop n all) (sym (add-one j)) in
-    record {
-      in_all = omega arith;
-      place = omega (arith, w.ends, s.place, length_digits 16 2 (get_or all j 0));
-      same_length = ap length w.bytes ∙ length-sets now i text ∙ s.same_length;
-      bytes = ap₂ (λ (l : List ℕ) (m : ℕ). sets l m (hex_bytes (drop (j + 1) all))) w.bytes w.ends
-          ∙ sym (sets_append now i text (hex_bytes (drop (j + 1) all)))
-          ∙ ap (λ (l : List ℕ). sets now i (hex_bytes l)) (sym left)
-          ∙ s.bytes;
-    }
+hex_push [] b = append-nil (digits 16 2 b)
+hex_push (a ∷ l) b = rw (hex_push l b) (sym (append_assoc (digits 16 2 a) (hex_bytes l) (digits 16 2 b)))
 
-pub done : {all before : List ℕ} {at : ℕ} {now : List ℕ} {i j : ℕ} → Spelling all before at now i j → length all ≤ j → Wrote (2 * length all) (hex_bytes all) before at i now
-unfolding hex_bytes
-done {all} {before} {at} {now} {i} {j} s h =
-    let n : length (hex_bytes all) ≡ 2 * length all = length_hex all in
-    let e : j ≡ length all = omega (arith, s.in_all) in
-    record {
-      ends = omega (arith, s.place);
-      bytes = sym (ap (λ (l : List ℕ). sets now i (hex_bytes l)) (drop_of_length-le all h)) ∙ s.bytes;
-      short = omega arith;
-    }
+-- one byte more
+pub spell_more : (bytes before now new : List ℕ) (i : ℕ) → i < length bytes → now ≡ hex_bytes (take i bytes) ++ drop (2 * i) before → new ≡ digits 16 2 (get_or bytes i 0)
+    → put_mid (2 * i) (2 * i + 2 - 2 * i) now new ≡ hex_bytes (take (i + 1) bytes) ++ drop (2 * (i + 1)) before
+spell_more bytes before now new i h e d =
+    let text = hex_bytes (take i bytes) in
+    let n : length text ≡ 2 * i = length_hex (take i bytes) ∙ ap (λ (k : ℕ). 2 * k) (length-take-le i bytes (omega arith)) in
+    let two : 2 * i + 2 - 2 * i ≡ 2 = omega arith in
+    let next : 2 * i + 2 ≡ 2 * (i + 1) = omega arith in
+    rw (e, d, two, take_at text (drop (2 * i) before) (2 * i) n, drop_at text (drop (2 * i) before) (2 * i) n, drop-drop, next, take_more bytes i 0 h, hex_push)
+    (sym (append_assoc text (digits 16 2 (get_or bytes i 0)) (drop (2 * (i + 1)) before)))

@@ -1,42 +1,50 @@
--- Text put where there is room, `Wrote`, and what a public call, `Put`, gives its callers. By the laws of `sets`. Assumes nothing.
-use Prim.Native.Nat.{ℕ, ◌+◌, ◌≤◌}
-use mathlib.Core.Path.{◌≡◌, refl, sym, ap, ◌∙◌, subst}
-use mathlib.Core.Bool.{Bool, true, false, cond}
-use mathlib.Core.List.{List, [], ◌∷◌}
-use native.Mathlib.Nat.{le_trans}
-use native.Mathlib.Numerals.{add-one}
-use native.Mathlib.Omega.{arith}
-use borrow.Author.Tests.{leb-true, le-leb}
+-- Text put where there is room, at the start of bytes (`Leads`) or from a place on (`Wrote`), and what a public call, `Put`, gives its callers.
+-- By the laws of `take`, `drop` and `sets`. Assumes nothing.
+use Rattle.std.proofs.Common.{ℕ, ◌+◌, ◌-◌, ◌≤◌, ◌<◌, ◌≡◌, refl, ap, ◌∙◌, Bool, true, false, cond, List, [], ◌∷◌, ◌++◌, length, take, drop, append_assoc, length-drop, arith}
+use Rattle.std.proofs.Math.ListN.{set}
+use Rattle.std.proofs.lemmas.List.{append-nil, length-set, drop-drop, drop-set-lt, drop_all, take_more_set, take_rest}
+use Rattle.std.proofs.lemmas.List.Edits.{sets, sets-eq}
+use Rattle.std.proofs.Math.Seq.{length-sets}
 use lib.Dec.{leb}
-use lib.ListN.{length, set}
-use lib.Seq.{sets, length-sets}
-use Rattle.text.specs.Text.{digits}
-use Rattle.text.specs.declared.Word.{Word}
-use Rattle.text.specs.Put.{Wrote, Put, spelt}
-use Rattle.text.proofs.Digits.{length_digits}
+use borrow.Author.Tests.{leb-true, le-leb}
+use borrow.Rule.Slice.PartMut.{put_mid}
+use Rattle.text.specs.Put.{Leads, Wrote, Put}
 
--- k digits that are stored
-pub wrote_digits : (b k n : ℕ) {before after : List ℕ} {at : ℕ} → after ≡ sets before at (digits b k n) → Wrote k (digits b k n) before at (at + k) after
-wrote_digits b k n {before} {after} {at} e =
-    let l : length (digits b k n) ≡ k = length_digits b k n in
-    record { ends = ap (λ (i : ℕ). at + i) (sym l); bytes = e; short = omega arith }
+-- ---- at the start of bytes
+
+-- a text that is put into what follows place i
+pub put_from : (i m r : ℕ) (text l new : List ℕ) → i ≤ length l → Leads m text (take (length l - i) (drop i l)) r new
+    → put_mid i (length l - i) l new ≡ take i l ++ (text ++ drop (i + r) l)
+put_from i m r text l new h w =
+    rw (w.bytes, take_rest l i, drop-drop r i l, drop_all (length l - i) (drop i l) (omega (arith, length-drop i l)), append-nil)
+
+-- a byte, and a text after it
+pub leads_after : (b m r : ℕ) (text l new : List ℕ) → 0 < length l → Leads m text (take (length (set l 0 b) - 1) (drop 1 (set l 0 b))) r new
+    → Leads (m + 1) (b ∷ text) l (1 + r) (put_mid 1 (length (set l 0 b) - 1) (set l 0 b) new)
+leads_after b m r text l new h w =
+    let first : take 1 (set l 0 b) ≡ b ∷ [] = take_more_set l 0 b h in
+    let after : drop (1 + r) (set l 0 b) ≡ drop (1 + r) l = drop-set-lt (1 + r) l 0 b (omega arith) in
+    record {
+      ends = omega (arith, w.ends);
+      bytes = put_from 1 m r text (set l 0 b) new (omega (arith, length-set l 0 b)) w ∙ rw (first, after);
+      short = omega (arith, w.short);
+    }
+
+-- ---- from a place on
+
+-- a text that is put into what follows `at`, where there is room, meets what a public call promises
+pub put_leads : (room at r : ℕ) (text before mid : List ℕ) → leb (at + room) (length before) ≡ true → Leads room text (take (length before - at) (drop at before)) r mid
+    → Put room text before at (at + r) (put_mid at (length before - at) before mid)
+put_leads room at r text before mid h w =
+    let fits : at + room ≤ length before = leb-true (at + room) (length before) h in
+    let bytes : put_mid at (length before - at) before mid ≡ sets before at text =
+    put_from at room r text before mid (omega arith) w
+    ∙ rw (sets-eq text before at (omega (arith, w.ends, w.short)), append_assoc, w.ends) refl in
+    record { outcome = rw (h, bytes, w.ends) refl; short = omega (arith, w.short) }
 
 -- a text may have more room than it takes
 pub wider : {m n at r : ℕ} {text before after : List ℕ} → m ≤ n → Wrote m text before at r after → Wrote n text before at r after
-wider h w = record { ends = w.ends; bytes = w.bytes; short = le_trans w.short h }
-
--- a word that is known
-pub word_is : (w v : Word) {m at r : ℕ} {before after : List ℕ} → w ≡ v → m ≤ 21 → Wrote m (spelt v) before at r after → Wrote 21 (spelt w) before at r after
-word_is w v {m} {at} {r} {before} {after} e h p = subst (λ (x : Word). Wrote 21 (spelt x) before at r after) (sym e) (wider h p)
-
--- a byte, and a text after it
-pub byte_before : (b : ℕ) {m at r : ℕ} {text before after : List ℕ} → Wrote m text (set before at b) (at + 1) r after → Wrote (m + 1) (b ∷ text) before at r after
-byte_before b {at = at} {text = text} {before = before} w =
-    record {
-      ends = omega (arith, w.ends);
-      bytes = w.bytes ∙ ap (λ (i : ℕ). sets (set before at b) i text) (add-one at);
-      short = omega (arith, w.short);
-    }
+wider h w = record { ends = w.ends; bytes = w.bytes; short = omega (arith, w.short) }
 
 -- a text of no bytes
 pub nothing : {m at : ℕ} {before : List ℕ} → Wrote m [] before at at before

@@ -1,5 +1,5 @@
 -- What the contracts of `text` cite: text put into lent bytes.
-use Rattle.std.specs.Prelude.{ℕ, ◌+◌, ◌≤◌, ◌≡◌, cond, List, [], ◌∷◌, ◌++◌, eqb, leb, length}
+use Rattle.std.specs.Prelude.{ℕ, ◌+◌, ◌≤◌, ◌≡◌, cond, List, [], ◌∷◌, ◌++◌, eqb, leb, length, drop}
 use Rattle.std.proofs.lemmas.List.Edits.{sets}
 use Rattle.text.specs.declared.Word.{Word}
 use Rattle.text.specs.declared.Word.TheVariants.{Number, Whole, Bits, Blank}
@@ -36,3 +36,9 @@ pub record Wrote (room : ℕ) (text before : List ℕ) (at r : ℕ) (after : Lis
   pub ends : r ≡ at + length text
   pub bytes : after ≡ sets before at text
   pub short : length text ≤ room
+
+-- the text stands at the start, r is its length and no more than `room`, and what follows it stays
+pub record Leads (room : ℕ) (text before : List ℕ) (r : ℕ) (after : List ℕ) : Type 0 where
+  pub ends : r ≡ length text
+  pub bytes : after ≡ text ++ drop r before
+  pub short : r ≤ room

@@ -1,39 +1,14 @@
 -- `text::fill` meets its contract. The loop's invariant is `Filling`, and each way through a turn is one of its steps. Assumes nothing.
-use borrow.Author.Rules.{rules}
-use native.Mathlib.Omega.{arith}
-use mathlib.Core.Path.{◌≡◌}
-use lib.ListN.{length}
-use Rattle.text.proofs.Filling.{start, byte, word, none, done}
+use Rattle.std.proofs.Common.{arith}
+use Rattle.text.proofs.Filling.{byte, word, none}
+use Rattle.text.proofs.fill.Goals.{then-b-ne37, else-b-ne37+in-Some, else-b-ne37+in_default}
 use Rattle.text.proofs.fill.Goals as goal
 
-pub loop-j-init : goal.loop-j-init
-loop-j-init c = start _ _ _ _
-
-pub bounds-out-i : goal.bounds-out-i
-bounds-out-i c = omega (arith, c.loop-j.invariant.room, c.loop-j.invariant.same_length)
-
-pub overflow_add-i : goal.overflow_add-i
-overflow_add-i c = omega (arith, c.loop-j.invariant.room, c.loop-j.invariant.same_length)
-
-pub loop-j-preserved-then-b-ne37 : goal.loop-j-preserved-then-b-ne37
-loop-j-preserved-then-b-ne37 c = byte c.loop-j.invariant (omega arith) c.if-b-ne37.true
-
-pub put_word-i-requires : goal.put_word-i-requires
-put_word-i-requires c = omega (arith, c.loop-j.invariant.room, c.loop-j.invariant.same_length)
-
-pub loop-j-preserved-then-k-lt11 : goal.loop-j-preserved-then-k-lt11
-loop-j-preserved-then-k-lt11 c =
-    let v = c.loop-j.invariant in
-    let n : length c.args.words ≡ 11 = search rules in
-    word v (omega arith) _ c.if-b-ne37.false (omega arith) (omega arith) c.put_word-i.ensures
-
-pub loop-j-preserved : goal.loop-j-preserved
-loop-j-preserved c =
-    let n : length c.args.words ≡ 11 = search rules in
-    none c.loop-j.invariant (omega arith) c.if-b-ne37.false (omega arith)
-
-pub shape_of-out : goal.shape_of-out
-shape_of-out c = c.loop-j.invariant.same_length
-
-pub returns : goal.returns
-returns c = done c.loop-j.invariant (omega arith)
+pub loop-b-preserved : goal.loop-b-preserved
+loop-b-preserved c =
+    let f = c.loop-b.invariant in
+    elim c.if-b-ne37.branch [
+      | then-b-ne37 w ↦ rw (w.out-is, w.words-is, w.end-is) (byte f (omega arith) (omega arith) (omega arith) w.if-b-ne37.true)
+      | else-b-ne37+in-Some w ↦ rw (w.out-is, w.words-is, w.end-is) (word f (omega arith) (omega arith) _ _ _ w.if-b-ne37.false w.in-Some.ensures.steps w.put_word-end.ensures)
+      | else-b-ne37+in_default w ↦ rw (w.out-is, w.words-is, w.end-is, w.in_default.ensures.steps.1) (none f (omega arith) (omega arith) w.if-b-ne37.false w.in_default.ensures.steps.0)
+    ]

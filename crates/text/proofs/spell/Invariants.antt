@@ -1,11 +1,7 @@
--- `text::spell` meets its contract. The loop's invariant is `Spelling`. Assumes nothing.
-use Prim.Native.Nat.{◌-◌}
-use lib.ListN.{length}
-use Rattle.text.proofs.Spelling.{Spelling}
+-- `text::spell` meets its contract. The loop's invariant: the first i bytes are spelt, and what follows their digits is as it was. Assumes nothing.
+use Rattle.std.proofs.Common.{◌≡◌, ◌++◌, ◌*◌, take, drop}
+use Rattle.text.specs.Text.{hex_bytes}
 use Rattle.text.proofs.spell.Given as goal
 
-abbrev pub invariant-loop-j : goal.invariant-loop-j
-invariant-loop-j l = Spelling l.bytes l.initial.out l.at l.out l.i l.j
-
-abbrev pub decreases-loop-j : goal.decreases-loop-j
-decreases-loop-j l = length l.bytes - l.j
+abbrev pub invariant-loop-i : goal.invariant-loop-i
+invariant-loop-i l = l.out ≡ hex_bytes (take l.i l.bytes) ++ drop (2 * l.i) l.initial.out
