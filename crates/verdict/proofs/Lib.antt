@@ -1,3 +1,2 @@
 -- The laws of `verdict`.
-mod Bounds
 pub mod Unique

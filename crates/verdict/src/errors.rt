@@ -1,7 +1,6 @@
 // Document 01, "The verdict": how far a device report is from its reference.
-ghost use Rattle.std.specs.Prelude.{◌≡◌, nat_abs, ◌<◌, ◌^◌};
-ghost use Rattle.verdict.specs.Inside.{Small};
-ghost use Rattle.verdict.specs.Errors.{squares, error_squared, apart_by, errors_of};
+ghost use Rattle.std.specs.Prelude.{◌≡◌, ◌+◌, ◌*◌};
+ghost use Rattle.verdict.specs.Errors.{error_squared, apart_by, errors_of};
 
 // A device report: the phasor in counts, the frequency deviation in mHz, ROCOF in hundredths of Hz/s.
 #[derive(Clone, Copy)]
@@ -34,48 +33,40 @@ pub(crate) struct Errors {
     pub(crate) rocof: u64,
 }
 
-// |z|
-fn size(z: i64) -> u64
-    requires { nat_abs z < 2 ^ 63 }
-    ensures { result ≡ nat_abs z }
-{
-    if z < 0 { (0 - z) as u64 } else { z as u64 }
-}
-
 // x² + y²
-fn squares_of(x: i32, y: i32) -> u64
-    ensures { result ≡ squares x y }
+fn squares_of(x: u16, y: u16) -> u64
+    ensures { result ≡ x * x + y * y }
 {
-    let a = size(x as i64);
-    let b = size(y as i64);
-    a * a + b * b
-}
-
-// dr² + di², with dr, di the differences of the device's re and im from the reference's.
-fn error_squared(device: Device, reference: Reference) -> u64
-    ensures { result ≡ error_squared device reference }
-{
-    let dr = device.re as i32 - reference.re as i32;
-    let di = device.im as i32 - reference.im as i32;
-    squares_of(dr, di)
+    let (x, y) = (u64::from(x), u64::from(y));
+    x * x + y * y
 }
 
 // |unit·device - reference|, where a device's figure is in units of so many of the reference's.
 fn apart(unit: u16, device: i16, reference: i32) -> u64
     ensures { result ≡ apart_by unit device reference }
 {
-    let figure = unit as i64 * device as i64;
-    let error = figure - reference as i64;
-    size(error)
+    let figure = i64::from(unit) * i64::from(device);
+    figure.abs_diff(i64::from(reference))
+}
+
+// dr² + di²
+fn error_squared(device: Device, reference: Reference) -> u64
+    ensures { result ≡ error_squared device reference }
+{
+    squares_of(
+        device.re.abs_diff(reference.re),
+        device.im.abs_diff(reference.im),
+    )
 }
 
 // The errors of a device report: dr² + di², re² + im² of the reference, FE in µHz, RFE in µHz/s.
+#[tactic(auto, unfolding(crate::specs::Errors::errors_of))]
 pub(crate) fn errors_of(device: Device, reference: Reference) -> Errors
-    ensures { (result ≡ errors_of device reference) × Small result }
+    ensures { result ≡ errors_of device reference }
 {
     Errors {
         error_squared: error_squared(device, reference),
-        reference_squared: squares_of(reference.re as i32, reference.im as i32),
+        reference_squared: squares_of(reference.re.unsigned_abs(), reference.im.unsigned_abs()),
         frequency: apart(1000, device.deviation, reference.deviation),
         rocof: apart(10000, device.rocof, reference.rocof),
     }

@@ -1,10 +1,9 @@
 // The verdict on a device report: each error against its limit, what is left out, and the refusals in their order.
 ghost use Rattle.std.specs.Prelude.{◌≡◌};
-ghost use Rattle.verdict.specs.Inside.{Small};
 ghost use Rattle.verdict.specs.Judging.{verdict_on, is_left_out, no_reference, Judging};
 
 use crate::errors::{Device, Errors, Reference, errors_of};
-use crate::limits::{Limits, limits_for};
+use crate::limits::{Limits, TABLE_2011, limits_in};
 use refusals::Refused;
 
 // Whether each error is within its limit.
@@ -18,16 +17,15 @@ pub struct Verdict {
 // Each error against its limit: meeting the limit is within.
 #[tactic(auto, unfolding(crate::specs::Judging::verdict_on))]
 fn verdict_on(errors: Errors, limits: Limits) -> Verdict
-    requires { Small errors }
     ensures { result ≡ verdict_on errors limits }
 {
-    let percent = limits.tve as u64;
-    let error = errors.error_squared * 10000;
-    let allowed = percent * percent * errors.reference_squared;
+    let percent = u128::from(limits.tve);
+    let error = u128::from(errors.error_squared) * 10000;
+    let allowed = percent * percent * u128::from(errors.reference_squared);
     Verdict {
         tve: error <= allowed,
-        fe: errors.frequency <= limits.fe as u64,
-        rfe: errors.rocof <= limits.rfe as u64,
+        fe: errors.frequency <= u64::from(limits.fe),
+        rfe: errors.rocof <= u64::from(limits.rfe),
     }
 }
 
@@ -35,14 +33,14 @@ fn verdict_on(errors: Errors, limits: Limits) -> Verdict
 fn no_reference(reference: Reference) -> bool
     ensures { result ≡ (no_reference reference).due }
 {
-    (reference.re == 0) & (reference.im == 0)
+    (reference.re, reference.im) == (0, 0)
 }
 
 // In ramp tests m from -2 to 2 (CR 1); in steady tests m has no effect.
 fn left_out(test: u8, m: i32) -> bool
     ensures { result ≡ is_left_out test m }
 {
-    (test == 1) & (-2 <= m) & (m <= 2)
+    test == 1 && (-2..=2).contains(&m)
 }
 
 // The judging of one device report: refusals 10, 11, 9, then "left out", with no verdicts (`None`), then the three verdicts.
@@ -69,6 +67,6 @@ pub fn judge(
         return Ok(None);
     }
     let errors = errors_of(device, reference);
-    let limits = limits_for(class, test);
+    let limits = limits_in(TABLE_2011, usize::from(class), usize::from(test));
     Ok(Some(verdict_on(errors, limits)))
 }

@@ -1,6 +1,6 @@
 // The limits of 004, IEEE C37.118.1-2011: an array of arrays of triples, by class and then by test.
 ghost use Rattle.std.specs.Prelude.{◌≡◌, ◌<◌};
-ghost use Rattle.verdict.specs.Limits.{limits_in, limits_for};
+ghost use Rattle.verdict.specs.Limits.{limits_in};
 
 // Three to each class and test: TVE in percent, FE in µHz, RFE in µHz/s.
 #[derive(Clone, Copy)]
@@ -39,20 +39,12 @@ const M_RAMP: Limits = Limits {
 };
 
 // A row for each class: steady (test 0), ramp (test 1).
-const TABLE_2011: [[Limits; 2]; 2] = [[P_STEADY, P_RAMP], [M_STEADY, M_RAMP]];
+pub(crate) const TABLE_2011: [[Limits; 2]; 2] = [[P_STEADY, P_RAMP], [M_STEADY, M_RAMP]];
 
 // The limits that a table has for a class and a test.
-fn limits_in(table: [[Limits; 2]; 2], class: usize, test: usize) -> Limits
+pub(crate) fn limits_in(table: [[Limits; 2]; 2], class: usize, test: usize) -> Limits
     requires { (class < 2) × (test < 2) }
     ensures { result ≡ limits_in table class test }
 {
     table[class][test]
-}
-
-// The limits for a class and a test that are not refused.
-pub(crate) fn limits_for(class: u8, test: u8) -> Limits
-    requires { (class < 2) × (test < 2) }
-    ensures { result ≡ limits_for class test }
-{
-    limits_in(TABLE_2011, class as usize, test as usize)
 }
