@@ -1,17 +1,10 @@
 -- What a slot becomes: it stays 256 bytes, it is not damaged, its angles are true, and one that is sound stays as it is. Assumes nothing.
-use mathlib.Core.Path.{◌≡◌, refl, sym, ap, ◌∙◌}
-use mathlib.Core.Bool.{Bool, true, false, cond, not}
-use mathlib.Core.List.{List}
-use Prim.Native.Nat.{ℕ}
-use native.Mathlib.Omega.{arith}
-use lib.Dec.{eqb}
-use lib.ListN.{length}
-use borrow.Author.Tests.{eqb-true}
+use Rattle.std.proofs.Common.{◌≡◌, ℕ, Bool, true, false, cond, not, List, length, eqb, Option, Some, None, refl, sym, ap, ◌∙◌, arith, eqb-true}
 use Rattle.feed.specs.Places.{zeros}
 use Rattle.feed.specs.Ring.{faulty}
 use Rattle.bank.specs.Slot.{state_in, head_in, feed_in, free_slot, worked_out_in, TrueIn}
 use Rattle.bank.specs.declared.damage.Damage.{Damage}
-use Rattle.bank.specs.declared.damage.Damage.TheVariants.{None, Stray, Other}
+use Rattle.bank.specs.declared.damage.Damage.TheVariants.{Stray, Other}
 use Rattle.bank.specs.Damage.{is_free, is_damaged, only_stray, damage_of}
 use Rattle.bank.proofs.Keeping.{free_undamaged, is_open_lem, open_kept}
 use Rattle.bank.proofs.Angles.{shut_stays, true_stays, stays_true, worked_size, worked_true, worked_undamaged}
@@ -23,9 +16,9 @@ use Rattle.salvage.proofs.Counts.{differing_none}
 
 -- ---- by the damage
 
-pub left_by_lem : {damage : Damage} (s : List ℕ) → damage_of s ≡ damage → mended_slot s ≡ left_by damage s
+pub left_by_lem : {damage : Option Damage} (s : List ℕ) → damage_of s ≡ damage → mended_slot s ≡ left_by damage s
 unfolding mended_slot
-left_by_lem s e = ap (λ (d : Damage). left_by d s) e
+left_by_lem s e = ap (λ (d : Option Damage). left_by d s) e
 
 -- ---- a slot that is not damaged: free, or open with numbers that are not faulty
 
@@ -82,7 +75,7 @@ module _ (Law : List ℕ → Type 0) (s : List ℕ)
   unfolding mended_slot damage_of left_by
   mended_by = go (is_damaged s) refl (only_stray s) refl
     where
-      go : (t : Bool) → is_damaged s ≡ t → (u : Bool) → only_stray s ≡ u → Law (left_by (cond t (cond u Stray Other) None) s)
+      go : (t : Bool) → is_damaged s ≡ t → (u : Bool) → only_stray s ≡ u → Law (left_by (cond t (Some (cond u Stray Other)) None) s)
       go true e true d = stray d
       go true e false d = free
       go false e u d = sound e

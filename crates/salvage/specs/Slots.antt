@@ -1,8 +1,9 @@
 -- Document 02, CR 3 with CR 6: what becomes of a slot, and what is said of it.
-use Rattle.std.specs.Prelude.{Bool, cond, not, List, [], ◌∷◌, ◌++◌, ℕ, ◌+◌, ◌-◌, ◌*◌, eqb, take}
+use Rattle.std.specs.Prelude.{Option, Some, None, Bool, cond, not, List, ◌++◌, ℕ, ◌+◌, ◌-◌, ◌*◌, ◌==◌, eqb, count_by, take}
+use Rattle.std.specs.List.{zip}
 use Rattle.feed.specs.Places.{zeros}
 use Rattle.bank.specs.declared.damage.Damage.{Damage}
-use Rattle.bank.specs.declared.damage.Damage.TheVariants.{None, Stray, Other}
+use Rattle.bank.specs.declared.damage.Damage.TheVariants.{Stray, Other}
 use Rattle.bank.specs.Slot.{head_in, free_slot, worked_out_in}
 use Rattle.bank.specs.Damage.{damage_of}
 use Rattle.salvage.specs.declared.Fate.{Fate}
@@ -20,10 +21,10 @@ trimmed s = take (filled_to s) s ++ zeros (256 - filled_to s)
 
 -- the bytes that a slot so damaged is left with: an open slot that only stray bytes or flags over 1 damage is trimmed, any other damaged slot is
 -- closed; and the three angles of every open slot that is not closed are worked out (CR 6)
-unfoldable pub left_by : Damage → List ℕ → List ℕ
+unfoldable pub left_by : Option Damage → List ℕ → List ℕ
 left_by None s = worked_out_in s
-left_by Stray s = worked_out_in (trimmed s)
-left_by Other s = free_slot
+left_by (Some Stray) s = worked_out_in (trimmed s)
+left_by (Some Other) s = free_slot
 
 -- a slot as salvage leaves it
 unfoldable pub mended_slot : List ℕ → List ℕ
@@ -31,15 +32,13 @@ mended_slot s = left_by (damage_of s) s
 
 -- how many bytes differ
 unfoldable pub differing : List ℕ → List ℕ → ℕ
-differing [] after = 0
-differing (b ∷ before) [] = 0
-differing (b ∷ before) (a ∷ after) = cond (eqb b a) 0 1 + differing before after
+differing before after = count_by (λ (b, a). not (b == a)) (zip before after)
 
 -- Sound slots stay; one that is not damaged, and that working out its angles alters, is called trimmed (CR 6)
-abbrev pub fate_by : Damage → (altered : Bool) → Fate
+abbrev pub fate_by : Option Damage → (altered : Bool) → Fate
 fate_by None altered = cond altered Trimmed Sound
-fate_by Stray altered = Trimmed
-fate_by Other altered = Closed
+fate_by (Some Stray) altered = Trimmed
+fate_by (Some Other) altered = Closed
 
 abbrev pub fate_of : List ℕ → Fate
 fate_of s = fate_by (damage_of s) (not (eqb (differing s (mended_slot s)) 0))

@@ -4,8 +4,9 @@
 mod slot;
 
 ghost use Rattle.std.specs.Prelude.{◌≡◌, length};
-ghost use Rattle.salvage.specs.Image.{mended_image, told_of, all_sound, Mending};
+ghost use Rattle.salvage.specs.Image.{mended_image, told_of, Mending};
 
+use refusals::Refused;
 use slot::mend_slot;
 
 // What becomes of a slot.
@@ -27,28 +28,15 @@ pub struct MendedSlot {
     pub differing: u16,
 }
 
-// How a salvage ends.
-#[derive(Clone, Copy)]
-pub enum Ending {
-    Refused(u8),
-    Mended,
-}
-
-// How a salvage ends, and what is said of the sixteen slots, in their order: of a refused one, sound, 0, sixteen times.
-#[derive(Clone, Copy)]
-pub struct Salvaged {
-    pub ending: Ending,
-    pub slots: [MendedSlot; 16],
-}
-
-// Sixteen times sound, 0.
-fn all_sound() -> [MendedSlot; 16]
-    ensures { result ≡ all_sound }
+// An image of the bank is mended slot by slot, and what is said of each is answered in their order: refused 1, and then nothing changes.
+#[tactic(auto, unfolding(crate::specs::Image::salvaged))]
+pub fn mend(image: &mut [u8]) -> Result<[MendedSlot; 16], Refused>
+    ensures { Mending image.old result image.new }
 {
-    [MendedSlot {
-        fate: Fate::Sound,
-        differing: 0,
-    }; 16]
+    if image.len() != 4096 {
+        return Err(Refused::BankLength);
+    }
+    Ok(mend_slots(image))
 }
 
 // The sixteen slots of an image, one after another.
@@ -56,30 +44,17 @@ fn mend_slots(image: &mut [u8]) -> [MendedSlot; 16]
     requires { length image.old ≡ 4096 }
     ensures { (result ≡ told_of image.old) × (image.new ≡ mended_image image.old) }
 {
-    let mut slots = all_sound();
-    let mut k: usize = 0;
-    while k < 16 {
+    let mut slots = [MendedSlot {
+        fate: Fate::Sound,
+        differing: 0,
+    }; 16];
+    for k in 0..16 {
         let start = 256 * k;
         let end = start + 256;
-        slots[k] = mend_slot(&mut image[start..end]);
-        k += 1;
+        let slot = &mut image[start..end];
+        let (after, told) = mend_slot(*slot.as_array().unwrap());
+        slot.copy_from_slice(&after);
+        slots[k] = told;
     }
     slots
-}
-
-// An image of the bank is mended slot by slot: refused 1, and then nothing changes.
-pub fn mend(image: &mut [u8]) -> Salvaged
-    ensures { Mending image.old result image.new }
-{
-    if image.len() != 4096 {
-        return Salvaged {
-            ending: Ending::Refused(1),
-            slots: all_sound(),
-        };
-    }
-    let slots = mend_slots(image);
-    Salvaged {
-        ending: Ending::Mended,
-        slots,
-    }
 }

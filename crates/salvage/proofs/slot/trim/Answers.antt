@@ -1,18 +1,13 @@
--- `salvage::slot::trim` meets its contract: what is copied stands before zeros. Assumes nothing.
-use mathlib.Core.Path.{◌≡◌}
-use Prim.Native.Nat.{ℕ, ◌-◌, ◌≤◌}
-use native.Mathlib.Omega.{arith}
-use lib.ListN.{take}
+-- `salvage::slot::trim` meets its contract: what is zeroed stands after the filled places. Assumes nothing.
+use Rattle.std.proofs.Common.{◌≡◌, length, arith, rules}
 use Rattle.bank.specs.Slot.{head_in}
 use Rattle.salvage.specs.Slots.{filled_to, trimmed}
-use Rattle.salvage.proofs.Trims.{over_free}
+use Rattle.salvage.proofs.Trims.{zeroed_from}
 use Rattle.salvage.proofs.slot.trim.Goals as goal
 
 pub returns : goal.returns
 unfolding trimmed head_in
 returns c =
     let s = c.args.slot in
-    let kept : ℕ = filled_to s in
-    let e : kept - 0 ≡ kept = omega arith in
-    let room : kept ≤ 256 = omega arith in
-    rw c.copy_from_slice.ensures.after (rw e (over_free (take kept s) c.free_slot-bytes.result kept room c.free_slot-bytes.ensures))
+    let size : length s ≡ 256 = search rules in
+    zeroed_from s _ _ (filled_to s) (omega (arith, c.from.ensures)) (omega arith) size (c.fill.ensures.after (λ y e. e))
