@@ -5,11 +5,11 @@ use mathlib.Core.List.{List, [], ◌∷◌, map, foldl}
 use Prim.Native.Nat.{ℕ, ◌+◌, ◌*◌, ◌/◌, ◌%◌, ◌^◌, ◌<◌}
 use native.Mathlib.Nat.{mod-lt}
 use lib.Arith.{digits_lt}
-use lib.Bits.{bit_xor, xor_comm, xor_lt}
+use lib.Bits.{bit_xor, xor_assoc, xor_comm, xor_lt}
 use lib.Dec.{eqb, lit<}
 use lib.Pow.{pow_pos, high, low as low_of, split, shr_lt}
 use Rattle.frames.specs.Checksum.{polynomial, divided, bits_of, after_byte}
-use Rattle.frames.proofs.Linear.{by_bit, Lin, whole, up, down, low, ◌⊕◌, ◌after◌, at, linear, agree, xor_assoc, xor_cancel}
+use Rattle.frames.proofs.Linear.{by_bit, Lin, whole, up, down, low, ◌⊕◌, ◌after◌, at, linear, agree, xor_cancel}
 
 -- ---- one bit
 

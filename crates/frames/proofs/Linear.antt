@@ -2,13 +2,13 @@
 -- Assumes nothing.
 use mathlib.Core.Path.{◌≡◌, refl, sym, ap, ap₂, ◌∙◌, subst}
 use mathlib.Core.Bool.{Bool}
-use Prim.Native.Nat.{ℕ, zero, suc, ◌+◌, ◌*◌, ◌/◌, ◌%◌, ◌^◌, ◌<◌}
+use Prim.Native.Nat.{ℕ, zero, suc, ◌*◌, ◌/◌, ◌%◌, ◌^◌, ◌<◌}
 use native.Mathlib.Nat.{add-zero, one-mul, zero-mul, mod-lt}
 use native.Mathlib.Numerals.{one-add}
 use native.Mathlib.Omega.{arith}
-use lib.Arith.{lt-one, bin_ind, digits_mod}
-use lib.Bits.{bit_xor, differ, xor_step, xor_comm, xor_self, xor_block, xor_shr, xor_mod, xor_shifted}
-use lib.Dec.{T, eqb, eqb→eq, lit<}
+use lib.Arith.{lt-one}
+use lib.Bits.{bit_xor, xor_assoc, xor_comm, xor_self, xor_block, xor_shr, xor_mod, xor_shifted}
+use lib.Dec.{T, eqb, eqb→eq}
 use lib.Pow.{pow_pos, split, shr_lt}
 use mir.Facts.{and_yes}
 use Rattle.ints.proofs.Every.{every}
@@ -18,31 +18,6 @@ pub by_bit : (P : ℕ → Type 0) → P 0 → P 1 → (n : ℕ) → n < 2 → P 
 by_bit P p q zero h = p
 by_bit P p q (suc zero) h = q
 by_bit P p q (suc (suc n)) h = absurd (omega (arith, h))
-
-two_pos : 0 < 2
-two_pos = pow_pos 1
-
--- ---- sums without carry may be taken in any order
-
-differ_lt : (x y : ℕ) → x < 2 → y < 2 → differ x y < 2
-differ_lt x y p q = by_bit (λ (x : ℕ). differ x y < 2) q (by_bit (λ (y : ℕ). differ 1 y < 2) (lit< tt) (lit< tt) y q) x p
-
-differ_assoc : (x y z : ℕ) → x < 2 → y < 2 → z < 2 → differ (differ x y) z ≡ differ x (differ y z)
-differ_assoc x y z p q r =
-    by_bit (λ (x : ℕ). differ (differ x y) z ≡ differ x (differ y z)) refl
-    (by_bit (λ (y : ℕ). differ (differ 1 y) z ≡ differ 1 (differ y z)) refl
-    (by_bit (λ (z : ℕ). differ (differ 1 1) z ≡ differ 1 (differ 1 z)) refl refl z r) y q) x p
-
-lowest : (a b : ℕ) → bit_xor a b % 2 ≡ differ (a % 2) (b % 2)
-lowest a b = ap (λ (x : ℕ). x % 2) (xor_step a b) ∙ digits_mod (bit_xor (a / 2) (b / 2)) (differ_lt (a % 2) (b % 2) (mod-lt a two_pos) (mod-lt b two_pos))
-
-pub xor_assoc : (a b c : ℕ) → bit_xor (bit_xor a b) c ≡ bit_xor a (bit_xor b c)
-xor_assoc =
-    bin_ind (λ (n : ℕ). (b c : ℕ) → bit_xor (bit_xor n b) c ≡ bit_xor n (bit_xor b c)) (λ b c. refl)
-    (λ n ih b c. xor_step (bit_xor n b) c
-    ∙ ap₂ (λ (x y : ℕ). bit_xor x (c / 2) * 2 + differ y (c % 2)) (xor_shr n b 1) (lowest n b)
-    ∙ ap₂ (λ (x y : ℕ). x * 2 + y) (ih (b / 2) (c / 2)) (differ_assoc (n % 2) (b % 2) (c % 2) (mod-lt n two_pos) (mod-lt b two_pos) (mod-lt c two_pos))
-    ∙ sym (xor_step n (bit_xor b c) ∙ ap₂ (λ (x y : ℕ). bit_xor (n / 2) x * 2 + differ (n % 2) y) (xor_shr b c 1) (lowest b c)))
 
 pub swap_middle : (a b c d : ℕ) → bit_xor (bit_xor a b) (bit_xor c d) ≡ bit_xor (bit_xor a c) (bit_xor b d)
 swap_middle a b c d =

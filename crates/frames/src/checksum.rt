@@ -3,10 +3,11 @@ ghost use Rattle.std.specs.Prelude.{◌≡◌};
 ghost use Rattle.frames.specs.Checksum.{after_byte, checksum};
 
 // The remainder after one more byte: eight steps of the division at once.
+#[tactic(auto, using(crate::proofs::Division::shifted))]
 fn after_byte(remainder: u16, byte: u8) -> u16
     ensures { result ≡ after_byte remainder byte }
 {
-    let leaves = (remainder >> 8) ^ (byte as u16);
+    let leaves = (remainder >> 8) ^ u16::from(byte);
     let taken = leaves ^ (leaves >> 4);
     (remainder << 8) ^ (taken << 12) ^ (taken << 5) ^ taken
 }
@@ -16,11 +17,7 @@ fn after_byte(remainder: u16, byte: u8) -> u16
 pub(crate) fn checksum_of(bytes: &[u8]) -> u16
     ensures { result ≡ checksum bytes.now }
 {
-    let mut remainder: u16 = 0xFFFF;
-    let mut i = 0;
-    while i < bytes.len() {
-        remainder = after_byte(remainder, bytes[i]);
-        i += 1;
-    }
-    remainder
+    bytes
+        .iter()
+        .fold(0xFFFF, |remainder, byte| after_byte(remainder, *byte))
 }

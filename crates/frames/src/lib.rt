@@ -6,7 +6,7 @@ mod checksum;
 mod fields;
 mod tags;
 
-ghost use Rattle.std.specs.Prelude.{◌≡◌, length};
+ghost use Rattle.std.specs.Prelude.{◌≡◌};
 ghost use Rattle.refusals.specs.Refusals.{unless_refused};
 ghost use Rattle.frames.specs.Inside.{bytes_refusals};
 ghost use Rattle.frames.specs.Reading.{refused, said, figures_in, Reading};
@@ -15,6 +15,7 @@ pub use bench::{Configured, Tag};
 use checksum::checksum_of;
 use fields::{device_in, long_at, low_24, top_bits_set, word_at};
 use refusals::Refused;
+use sampling::Nominal;
 use tags::agrees;
 use verdict::Device;
 
@@ -30,24 +31,19 @@ pub struct Frame {
 pub fn read_frame(frame: &[u8], configured: Configured, tag: Tag) -> Result<Frame, Refused>
     ensures { Reading frame.now configured tag result }
 {
-    if !sampling::served_nominal(configured.nominal) {
-        return Err(Refused::Nominal);
-    }
+    Nominal::try_from(configured.nominal)?;
     if !sampling::served_rate(configured.nominal, configured.rate) {
         return Err(Refused::Rate);
     }
-    if (configured.time_base == 0) | (configured.time_base > 16777215) {
+    if !matches!(configured.time_base, 1..=16777215) {
         return Err(Refused::TimeBase);
     }
-    if frame.len() != 26 {
-        return Err(Refused::FrameLength);
-    }
-    read_bytes(frame, configured, tag)
+    let bytes = frame.as_array().ok_or(Refused::FrameLength)?;
+    read_bytes(bytes, configured, tag)
 }
 
 // Reads the 26 bytes of a frame: refused 19, 20, 21, 22, 23, 24.
-fn read_bytes(frame: &[u8], configured: Configured, tag: Tag) -> Result<Frame, Refused>
-    requires { length frame.now ≡ 26 }
+fn read_bytes(frame: &[u8; 26], configured: Configured, tag: Tag) -> Result<Frame, Refused>
     ensures { said result ≡ unless_refused (bytes_refusals frame.now configured tag) refused (figures_in frame.now) }
 {
     if word_at(frame, 0) != 0xAA01 {
@@ -56,7 +52,7 @@ fn read_bytes(frame: &[u8], configured: Configured, tag: Tag) -> Result<Frame, R
     if word_at(frame, 2) != 26 {
         return Err(Refused::SizeField);
     }
-    if word_at(frame, 24) != checksum_of(&frame[0..24]) {
+    if word_at(frame, 24) != checksum_of(&frame[..24]) {
         return Err(Refused::Checksum);
     }
     if word_at(frame, 4) != configured.id {
