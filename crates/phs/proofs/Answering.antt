@@ -1,76 +1,91 @@
 -- What a whole sample or a whole header leads to, by the answer of the bank's call. Assumes nothing.
-use Rattle.std.proofs.Common.{◌≡◌, ℕ, ◌+◌, ◌%◌, ◌^◌, ◌<◌, false, List, sym, refl, ap, ◌∙◌, subst, arith}
+use Rattle.std.proofs.Common.{◌≡◌, ℕ, ◌+◌, ◌%◌, ◌^◌, ◌<◌, Bool, true, false, cond, not, eqb, List, length, Result, Ok, Err, sym, refl, ap, ◌∙◌, subst, arith}
 use Rattle.text.specs.Put.{Wrote}
 use Rattle.text.proofs.Writing.{nothing}
-use Rattle.feed.specs.declared.Answer.{Answer}
-use Rattle.feed.specs.declared.Answer.TheVariants.{Refused, Taken, Reported}
+use Rattle.refusals.specs.declared.Refused.{Refused}
+use Rattle.refusals.specs.Refusals.{number_of}
 use Rattle.feed.specs.declared.Report.{Report}
-use Rattle.feed.specs.Answers.{said}
-use Rattle.bank.specs.declared.Settled.{Settled}
-use Rattle.bank.specs.declared.Settled.TheVariants.{Done, Refused as NotOpened}
-use Rattle.bank.specs.Calls.{Outcome, settled}
+use Rattle.feed.specs.Answers.{Said, refused, done, said_report, taken, taken_with}
+use Rattle.feed.specs.Places.{zeros}
+use Rattle.bank.specs.Calls.{Outcome, Clearing, settled, refusing, cleared, opened_at}
 use Rattle.phs.specs.declared.Stage.TheVariants.{InSamples, Over}
-use Rattle.phs.specs.declared.feeding.Led.{Led}
-use Rattle.header.specs.Header.{opens, Said as HeaderSaid, refused as refused_header}
-use Rattle.phs.specs.Lines.{head_line, report_line, line_room}
-use Rattle.phs.specs.Stream.{Left, reader_at, sampled, opened_in, opened_as, begun}
-use Rattle.phs.specs.Inside.{Leads, Refuses, Begins}
+use Rattle.phs.specs.declared.feeding.Tally.{Tally}
+use Rattle.phs.specs.declared.byte.Step.{Step}
+use Rattle.phs.specs.Lines.{head_line, report_line, refused_line, line_room}
+use Rattle.phs.specs.Stream.{Left, reader_at, sampled, opened_in, opened_as}
+use Rattle.phs.specs.Inside.{step_of, Steps, Leads, Settles}
 
-led_as : {n m : Left} {out bank out' : List ℕ} {at : ℕ} {t : Led} → m ≡ n → Leads m out at t bank out' → Leads n out at t bank out'
-led_as {n} {m} {out} {bank} {out'} {at} {t} e k = subst (λ (x : Left). Leads x out at t bank out') e k
+pub steps_as : {n m : Left} {out bank out' : List ℕ} {at : ℕ} {s : Step} → m ≡ n → Steps m out at s bank out' → Steps n out at s bank out'
+steps_as {n} {m} {out} {bank} {out'} {at} {s} e k = subst (λ (x : Left). Steps x out at s bank out') e k
 
 -- ---- a sample
 
 -- a count that nothing is added to
-uncounted : (n : ℕ) → n < 2 ^ 64 → n ≡ (n + 0) % 2 ^ 64
+uncounted : (n : ℕ) → n < 2 ^ 64 → (n + 0) % 2 ^ 64 ≡ n
 uncounted n l = omega arith
 
-module _ (reports samples : ℕ) (o : Outcome) (a : Answer) {bank : List ℕ} (pushed : record { answer = said a; bank = bank } ≡ o) where
-  -- the push's answer
-  answer_is : {b : Answer} → a ≡ b → sampled reports samples (record { answer = said b; bank = bank }) ≡ sampled reports samples o
-  answer_is {b} e = ap (sampled reports samples) (ap (λ (x : Answer). record { answer = said x; bank = bank }) (sym e) ∙ pushed)
-
-  pub sample_refused : {out out' : List ℕ} {at n : ℕ} {t : Led} → reports < 2 ^ 64 → samples < 2 ^ 64 → a ≡ Refused n → Refuses n reports samples out at t out'
-      → Leads (sampled reports samples o) out at t bank out'
+module _ (t : Tally) {o : Outcome} {bank : List ℕ} where
+  pub sample_refused : (r : Refused) → t.reports < 2 ^ 64 → t.samples < 2 ^ 64 → record { answer = refused (number_of r); bank = bank } ≡ o
+      → sampled t.reports t.samples o ≡ record { reader = reader_at Over t.reports t.samples; bank = bank; text = refused_line (number_of r) }
   unfolding sampled
-  sample_refused f g e w =
-      let counted : reader_at Over reports samples ≡ reader_at Over ((reports + 0) % 2 ^ 64) ((samples + 0) % 2 ^ 64) = λ i. reader_at Over (uncounted reports f i) (uncounted samples g i) in
-      led_as (answer_is e) (record { step = record { reader = w.reader ∙ counted; bank = refl; text = w.text } })
+  sample_refused r f g e =
+      ap (sampled t.reports t.samples) (sym e)
+      ∙ (λ i. record { reader = reader_at Over (uncounted t.reports f i) (uncounted t.samples g i); bank = bank; text = refused_line (number_of r) })
 
-  pub sample_taken : {out : List ℕ} {at samples' : ℕ} → reports < 2 ^ 64 → a ≡ Taken → samples' ≡ (samples + 1) % 2 ^ 64
-      → Leads (sampled reports samples o) out at (record { over = false; reports = reports; samples = samples'; at = at }) bank out
+  pub sample_taken : {out : List ℕ} {samples' : ℕ} → t.reports < 2 ^ 64 → record { answer = taken; bank = bank } ≡ o → samples' ≡ (t.samples + 1) % 2 ^ 64
+      → Steps (sampled t.reports t.samples o) out t.at (step_of (record { reports = t.reports; samples = samples'; at = t.at })) bank out
   unfolding sampled
   sample_taken f e q =
-      led_as (answer_is e) (record { step = record { reader = λ i. reader_at InSamples (uncounted reports f i) (q i); bank = refl; text = nothing } })
+      steps_as (ap (sampled t.reports t.samples) e)
+      (record { reader = λ i. reader_at InSamples (sym (uncounted t.reports f) i) (q i); bank = refl; text = nothing })
 
-  pub sample_reported : {r : Report} {out out' : List ℕ} {reports' samples' at end : ℕ}
-      → a ≡ Reported r → reports' ≡ (reports + 1) % 2 ^ 64 → samples' ≡ (samples + 1) % 2 ^ 64
-      → Wrote line_room (report_line r.soc r.frame r.re r.im r.d1 r.d2 r.mark) out at end out'
-      → Leads (sampled reports samples o) out at (record { over = false; reports = reports'; samples = samples'; at = end }) bank out'
+  pub sample_reported : {r : Report} {out out' : List ℕ} {reports' samples' end : ℕ}
+      → record { answer = said_report r; bank = bank } ≡ o → reports' ≡ (t.reports + 1) % 2 ^ 64 → samples' ≡ (t.samples + 1) % 2 ^ 64
+      → Wrote line_room (report_line r.soc r.frame r.re r.im r.d1 r.d2 r.mark) out t.at end out'
+      → Steps (sampled t.reports t.samples o) out t.at (step_of (record { reports = reports'; samples = samples'; at = end })) bank out'
   unfolding sampled
-  sample_reported e p q w = led_as (answer_is e) (record { step = record { reader = λ i. reader_at InSamples (p i) (q i); bank = refl; text = w } })
+  sample_reported e p q w =
+      steps_as (ap (sampled t.reports t.samples) e) (record { reader = λ i. reader_at InSamples (p i) (q i); bank = refl; text = w })
 
 -- ---- a header
 
--- the first line
-module _ (version nominal rate : ℕ) (a : Settled) {out out' : List ℕ} {at : ℕ} where
-  begins_as : {b : Settled} {t : Led} → a ≡ b → Begins version nominal rate b out at t out' → Begins version nominal rate a out at t out'
-  begins_as {b} {t} e k = subst (λ (x : Settled). Begins version nominal rate x out at t out') (sym e) k
+abbrev is_done : Said → ℕ
+is_done (refused number) = 0
+is_done done = 1
+is_done taken = 0
+is_done (taken_with soc frame re im d1 d2 mark re_peak im_peak deviation rocof) = 0
 
-  pub not_opened : {n : ℕ} {t : Led} → a ≡ NotOpened n → Refuses n 0 0 out at t out' → Begins version nominal rate a out at t out'
-  not_opened e w = begins_as e (λ bank. record { step = record { reader = w.reader; bank = refl; text = w.text } })
+-- a bank that can't be cleared can't be opened
+pub not_cleared : (bank : List ℕ) (nominal rate soc : ℕ) (r : Refused) {bank' : List ℕ} → Clearing bank (Err r) bank'
+    → ◌≡◌ {A = Outcome} (record { answer = refused (number_of r); bank = bank' }) (opened_in bank nominal rate soc)
+unfolding cleared opened_at
+not_cleared bank nominal rate soc r {bank'} e = go (not (eqb (length bank) 4096)) refl e
+  where
+    go : (t : Bool) → not (eqb (length bank) 4096) ≡ t
+        → record { answer = refused (number_of r); bank = bank' } ≡ cond t (refusing bank 1) (record { answer = done; bank = zeros 4096 })
+        → ◌≡◌ {A = Outcome} (record { answer = refused (number_of r); bank = bank' }) (opened_in bank nominal rate soc)
+    go true q f = rw (q, q) f
+    go false q f = absurd (let z : ◌≡◌ {A = ℕ} 0 1 = ap (λ (o : Outcome). is_done o.answer) f in omega arith)
 
-  pub is_opened : {end : ℕ} → a ≡ Done → Wrote line_room (head_line version nominal rate) out at end out'
-      → Begins version nominal rate a out at (record { over = false; reports = 0; samples = 0; at = end }) out'
-  is_opened e w = begins_as e (λ bank. record { step = record { reader = refl; bank = refl; text = w } })
+module _ (version nominal rate : ℕ) {bank : List ℕ} {o : Outcome} where
+  pub header_unopened : (r : Refused) → record { answer = refused (number_of r); bank = bank } ≡ o
+      → opened_as version nominal rate o ≡ record { reader = reader_at Over 0 0; bank = bank; text = refused_line (number_of r) }
+  header_unopened r e = ap (opened_as version nominal rate) (sym e)
 
-module _ (bank : List ℕ) (said : HeaderSaid) {out out' : List ℕ} {at : ℕ} {t : Led} where
-  pub header_refused : {n : ℕ} → refused_header n ≡ said → Refuses n 0 0 out at t out' → Leads (begun bank said) out at t bank out'
-  unfolding begun
-  header_refused e w = led_as (ap (begun bank) e) (record { step = record { reader = w.reader; bank = refl; text = w.text } })
+  pub header_opened : {out out' : List ℕ} {at end : ℕ} → record { answer = settled (Ok tt); bank = bank } ≡ o
+      → Wrote line_room (head_line version nominal rate) out at end out'
+      → Steps (opened_as version nominal rate o) out at (step_of (record { reports = 0; samples = 0; at = end })) bank out'
+  header_opened e w = steps_as (ap (opened_as version nominal rate) e) (record { reader = refl; bank = refl; text = w })
 
-  pub header_opens : {version nominal rate soc : ℕ} (a : Settled) {bank' : List ℕ} → opens version nominal rate soc ≡ said
-      → record { answer = settled a; bank = bank' } ≡ opened_in bank nominal rate soc → Begins version nominal rate a out at t out'
-      → Leads (begun bank said) out at t bank' out'
-  unfolding begun
-  header_opens {version} {nominal} {rate} a {bank'} e o w = led_as (ap (opened_as version nominal rate) o ∙ ap (begun bank) e) (w bank')
+-- ---- the step after either
+
+pub settles : {n : Left} (t : Tally) (led : Result Tally Refused) {out : List ℕ} (mid : List ℕ) {out' bank : List ℕ} {s : Step} → Leads n t out led bank mid → Settles t led mid s out'
+    → Steps n out t.at s bank out'
+settles {n} t (Ok u) {out} mid {out'} {bank} {s} l k =
+    subst (λ (o : List ℕ). Steps n out t.at s bank o) (sym k.1) (subst (λ (x : Step). Steps n out t.at x bank mid) (sym k.0) l)
+settles t (Err r) {out} mid {out'} {bank} {s} l k =
+    steps_as (sym l.0) (record {
+      reader = k.0;
+      bank = refl;
+      text = subst (λ (o : List ℕ). Wrote line_room (refused_line (number_of r)) o t.at s.at out') l.1 k.1;
+    })

@@ -1,5 +1,5 @@
 -- A call that goes on from place to place: places follow one another, a byte or a sample goes on, and at the end the call leaves what it promises. Assumes nothing.
-use Rattle.std.proofs.Common.{◌≡◌, ℕ, ◌+◌, ◌-◌, ◌<◌, ◌≤◌, true, eqb, leb, List, [], ◌++◌, length, get_or, take, drop, sym, refl, ap, ◌∙◌, subst, ap₂, append-nil, le_refl, add-zero, zero-add, arith, lit≤, length-append, length-drop, take-append-drop, drop_of_length-le, length-take-le, get_or-drop, drop-drop, take_at, drop_at, eqb-true, leb-true}
+use Rattle.std.proofs.Common.{◌≡◌, ℕ, ◌+◌, ◌-◌, ◌<◌, ◌≤◌, true, false, ◌&&◌, eqb, leb, List, [], ◌++◌, length, get_or, take, drop, sym, refl, ap, ◌∙◌, subst, ap₂, append-nil, le_refl, add-zero, zero-add, arith, lit≤, length-append, length-drop, take-append-drop, drop_of_length-le, length-take-le, get_or-drop, drop-drop, take_at, drop_at, eqb-true, leb-true, le-leb}
 use Rattle.bank.proofs.Blank.{both_true}
 use lib.Seq.{sets, sets-eq, length-sets}
 use Rattle.text.specs.Put.{Wrote}
@@ -8,13 +8,12 @@ use Rattle.feed.specs.Places.{sample_of}
 use Rattle.bank.specs.Calls.{pushed_at}
 use Rattle.phs.specs.declared.Stage.{Stage}
 use Rattle.phs.specs.declared.Stage.TheVariants.{InHeader, InSamples, Over}
-use Rattle.phs.specs.declared.feeding.Led.{Led}
 use Rattle.phs.specs.declared.byte.Step.{Step}
 use Rattle.phs.specs.declared.Reader.{Reader}
 use Rattle.phs.specs.declared.Moved.{Moved}
 use Rattle.phs.specs.Lines.{line_room}
 use Rattle.phs.specs.Stream.{Left, reader_at, sampled, after_byte, Fed, unread, onto, fed, outcome, Reading}
-use Rattle.phs.specs.Inside.{step_of, Leads, Steps, begins_in, Place, whole_from, Onward}
+use Rattle.phs.specs.Inside.{Steps, begins_in, Place, whole_from, Onward}
 use Rattle.phs.proofs.Counts.{clash}
 use Rattle.phs.proofs.Room.{onto_onto, Takes, takes_byte, takes_sample, no_room, none_left}
 
@@ -122,17 +121,25 @@ begins_is r left e = go r.stage refl e
         record { in_samples = q; none_held = eqb-true r.held 0 both.0; is_whole = leb-true 6 left both.1 }
     go Over q t = absurd (clash (sym t))
 
+-- the test of a sample more: it is whole in what is left, and a line has room
+module _ (left room : ℕ) where
+  pub one_more : leb 6 left && leb line_room room ≡ true → (6 ≤ left) × (line_room ≤ room)
+  one_more e = let both = both_true (leb 6 left) (leb line_room room) e in (leb-true 6 left both.0, leb-true line_room room both.1)
+
+  pub one_is_short : leb 6 left && leb line_room room ≡ false → 6 ≤ left → line_room ≤ room → ⊥
+  one_is_short e l r = clash (sym (λ i. le-leb 6 left l i && le-leb line_room room r i) ∙ e)
+
 -- a sample that begins here
-pub onward_sample : {part : List ℕ} (r : Reader) {bank bank' out out' : List ℕ} {i at : ℕ} (s : Sample) {t : Led}
+pub onward_sample : {part : List ℕ} (r : Reader) {bank bank' out out' : List ℕ} {i at : ℕ} (s : Sample) {q : Step}
     → r.stage ≡ InSamples → r.held ≡ 0 → 6 ≤ length r.kept → 6 ≤ length part - i → at + line_room ≤ length out → s ≡ sample_of (drop i part)
-    → Leads (sampled r.reports r.samples (pushed_at bank 0 s)) out at t bank' out'
+    → Steps (sampled r.reports r.samples (pushed_at bank 0 s)) out at q bank' out'
     → Onward part
     (record { reader = r; bank = bank; out = out; read = i; written = at })
-    (record { reader = (step_of t).reader; bank = bank'; out = out'; read = i + 6; written = t.at })
+    (record { reader = q.reader; bank = bank'; out = out'; read = i + 6; written = q.at })
 onward_sample {part} r {bank} {i = i} s p q k l room e w =
     let n : Sample → Left = λ s. sampled r.reports r.samples (pushed_at bank 0 s) in
     onward_by (n s) 6 (subst (λ (x : Sample). Takes r bank (drop i part) 6 (n x)) (sym e) (takes_sample r bank (drop i part) p q k (omega (arith, length-drop i part))))
-    (omega arith) room w.step.reader w.step.bank w.step.text
+    (omega arith) room w.reader w.bank w.text
 
 -- bytes that are kept of no sample don't count where a sample begins
 pub onward_fresh : {part : List ℕ} (r : Reader) {bank out : List ℕ} {i at : ℕ}

@@ -6,14 +6,11 @@ use Rattle.feed.specs.Places.{sample_of}
 use Rattle.bank.specs.Calls.{pushed_at}
 use Rattle.phs.specs.declared.Stage.{Stage}
 use Rattle.phs.specs.declared.Reader.{Reader}
-use Rattle.phs.specs.declared.feeding.Led.{Led}
 use Rattle.phs.specs.declared.byte.Step.{Step}
 use Rattle.header.specs.Header.{headed}
 use Rattle.phs.specs.Stream.{Left, keeping, wordless, sampled, begun, header_byte, sample_byte, after_byte_in, after_byte}
-use Rattle.phs.specs.Inside.{step_of, Leads, Steps}
-
-steps_as : {n m : Left} {out bank out' : List ℕ} {at : ℕ} {s : Step} → m ≡ n → Steps m out at s bank out' → Steps n out at s bank out'
-steps_as {n} {m} {out} {bank} {out'} {at} {s} e k = subst (λ (x : Left). Steps x out at s bank out') e k
+use Rattle.phs.specs.Inside.{Steps}
+use Rattle.phs.proofs.Answering.{steps_as}
 
 -- the step, said otherwise
 step_is : {n : Left} {out bank out' : List ℕ} {at : ℕ} {s q : Step} → s ≡ q → Steps n out at q bank out' → Steps n out at s bank out'
@@ -39,8 +36,8 @@ module _ (r : Reader) (bank : List ℕ) (b : ℕ) where
         step_is k (steps_as (sym (ap (λ (t : Bool). cond t (wordless (keeping r b) bank) whole) (lt-ltb r.held n l)))
         (record { reader = refl; bank = refl; text = nothing }))
 
-    ends : n ≤ r.held → {q : Step} {t : Led} {out bank' out' : List ℕ} {at : ℕ} → q ≡ step_of t → Leads whole out at t bank' out' → Steps byte out at q bank' out'
-    ends l k w = step_is k (steps_as (sym (ap (λ (t : Bool). cond t (wordless (keeping r b) bank) whole) (le-ltb r.held n l))) w.step)
+    ends : n ≤ r.held → {q : Step} {out bank' out' : List ℕ} {at : ℕ} → Steps whole out at q bank' out' → Steps byte out at q bank' out'
+    ends l w = steps_as (sym (ap (λ (t : Bool). cond t (wordless (keeping r b) bank) whole) (le-ltb r.held n l))) w
 
   abbrev whole_header : Left
   whole_header = begun bank (headed (set r.kept 10 b))
@@ -49,8 +46,7 @@ module _ (r : Reader) (bank : List ℕ) (b : ℕ) where
   unfolding header_byte
   header_more = more 10 whole_header
 
-  pub header_ends : 10 ≤ r.held → {q : Step} {t : Led} {out bank' out' : List ℕ} {at : ℕ} → q ≡ step_of t → Leads whole_header out at t bank' out'
-      → Steps (header_byte r bank b) out at q bank' out'
+  pub header_ends : 10 ≤ r.held → {q : Step} {out bank' out' : List ℕ} {at : ℕ} → Steps whole_header out at q bank' out' → Steps (header_byte r bank b) out at q bank' out'
   unfolding header_byte
   header_ends = ends 10 whole_header
 
@@ -61,7 +57,7 @@ module _ (r : Reader) (bank : List ℕ) (b : ℕ) where
   unfolding sample_byte
   sample_more = more 5 (whole_sample (sample_of (set r.kept 5 b)))
 
-  pub sample_ends : 5 ≤ r.held → {s : Sample} → s ≡ sample_of (set r.kept 5 b) → {q : Step} {t : Led} {out bank' out' : List ℕ} {at : ℕ} → q ≡ step_of t
-      → Leads (whole_sample s) out at t bank' out' → Steps (sample_byte r bank b) out at q bank' out'
+  pub sample_ends : 5 ≤ r.held → {s : Sample} → s ≡ sample_of (set r.kept 5 b) → {q : Step} {out bank' out' : List ℕ} {at : ℕ}
+      → Steps (whole_sample s) out at q bank' out' → Steps (sample_byte r bank b) out at q bank' out'
   unfolding sample_byte
-  sample_ends l p {t = t} k w = ends 5 (whole_sample (sample_of (set r.kept 5 b))) l {t = t} k (record { step = steps_as (ap whole_sample p) w.step })
+  sample_ends l p w = ends 5 (whole_sample (sample_of (set r.kept 5 b))) l (steps_as (ap whole_sample p) w)

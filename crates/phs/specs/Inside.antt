@@ -1,19 +1,19 @@
 -- What the functions inside the crate promise one another, as they read a part. No part of any promise of the crate.
-use Rattle.std.specs.Prelude.{◌≡◌, ℕ, ◌-◌, ◌≤◌, Bool, false, cond, ◌&&◌, List, length, take, drop, ◌==◌, nat_le}
+use Rattle.std.specs.Prelude.{◌≡◌, ℕ, ◌-◌, ◌≤◌, Bool, false, ◌&&◌, List, length, take, drop, ◌==◌, nat_le, Result, Ok, Err}
 use Rattle.text.specs.Put.{Wrote}
-use Rattle.bank.specs.declared.Settled.{Settled}
-use Rattle.bank.specs.Calls.{settled}
+use Rattle.refusals.specs.declared.Refused.{Refused}
+use Rattle.refusals.specs.Refusals.{number_of}
 use Rattle.phs.specs.declared.Stage.{Stage}
 use Rattle.phs.specs.declared.Stage.TheVariants.{InHeader, InSamples, Over}
 use Rattle.phs.specs.declared.Reader.{Reader}
-use Rattle.phs.specs.declared.feeding.Led.{Led}
+use Rattle.phs.specs.declared.feeding.Tally.{Tally}
 use Rattle.phs.specs.declared.byte.Step.{Step}
 use Rattle.phs.specs.Lines.{refused_line, line_room}
-use Rattle.phs.specs.Stream.{Left, reader_at, opened_as, Fed, onto, fed}
+use Rattle.phs.specs.Stream.{Left, reader_at, Fed, onto, fed}
 
--- what a whole header or sample leads to, as a step: the reader keeps no byte
-abbrev pub step_of : Led → Step
-step_of t = record { reader = reader_at (cond t.over Over InSamples) t.reports t.samples; at = t.at }
+-- the step after a whole header or sample that is not refused: the reader keeps no byte
+abbrev pub step_of : Tally → Step
+step_of t = record { reader = reader_at InSamples t.reports t.samples; at = t.at }
 
 -- a step leaves this: its text is written from `at` on
 pub record Steps (n : Left) (out : List ℕ) (at : ℕ) (s : Step) (bank' out' : List ℕ) : Type 0 where
@@ -21,19 +21,20 @@ pub record Steps (n : Left) (out : List ℕ) (at : ℕ) (s : Step) (bank' out' :
   pub bank : bank' ≡ n.bank
   pub text : Wrote line_room n.text out at s.at out'
 
--- a whole header or sample leads to this
-pub record Leads (n : Left) (out : List ℕ) (at : ℕ) (t : Led) (bank' out' : List ℕ) : Type 0 where
-  pub step : Steps n out at (step_of t) bank' out'
+-- a whole header or sample leads to this, from the tally t: to the next tally, or to a refusal, of which nothing is written yet
+abbrev pub Leads : Left → Tally → List ℕ → Result Tally Refused → List ℕ → List ℕ → Type 0
+Leads n t out (Ok u) bank' out' = Steps n out t.at (step_of u) bank' out'
+Leads n t out (Err r) bank' out' =
+    (n ≡ record { reader = reader_at Over t.reports t.samples; bank = bank'; text = refused_line (number_of r) }) × (out' ≡ out)
 
 -- the line `refused N` is written, and the listing is over
-pub record Refuses (number reports samples : ℕ) (out : List ℕ) (at : ℕ) (t : Led) (out' : List ℕ) : Type 0 where
-  pub reader : (step_of t).reader ≡ reader_at Over reports samples
-  pub text : Wrote line_room (refused_line number) out at t.at out'
+abbrev pub Refuses : Tally → Refused → List ℕ → Step → List ℕ → Type 0
+Refuses t r out s out' = (s.reader ≡ reader_at Over t.reports t.samples) × Wrote line_room (refused_line (number_of r)) out t.at s.at out'
 
--- the first line, by what the opening answers; the bank stays as the opening leaves it
-abbrev pub Begins : (version nominal rate : ℕ) → Settled → List ℕ → ℕ → Led → List ℕ → Type 0
-Begins version nominal rate opened out at t out' =
-    (bank : List ℕ) → Leads (opened_as version nominal rate (record { answer = settled opened; bank = bank })) out at t bank out'
+-- the step after a whole header or sample
+abbrev pub Settles : Tally → Result Tally Refused → List ℕ → Step → List ℕ → Type 0
+Settles t (Ok u) out s out' = (s ≡ step_of u) × (out' ≡ out)
+Settles t (Err r) out s out' = Refuses t r out s out'
 
 -- whether a sample begins here that is whole in what is left
 abbrev pub begins_in : Stage → Reader → ℕ → Bool

@@ -1,13 +1,13 @@
 // A byte at a time: those of an unfinished header or sample are kept.
-ghost use Rattle.std.specs.Prelude.{◌≡◌, ◌+◌, ◌<◌, ◌≤◌, length, if◌then◌else◌};
-ghost use Rattle.phs.specs.declared.Stage.TheVariants.{InSamples, Over};
+ghost use Rattle.std.specs.Prelude.{◌≡◌, ◌+◌, ◌<◌, ◌≤◌, length};
 ghost use Rattle.phs.specs.Lines.{line_room};
 ghost use Rattle.phs.specs.Stream.{reader_at, keeping, header_byte, sample_byte, after_byte};
-ghost use Rattle.phs.specs.Inside.{step_of, Steps};
+ghost use Rattle.phs.specs.Inside.{step_of, Steps, Refuses, Settles};
 
-use crate::feeding::{Led, begin, take_sample};
+use crate::feeding::{Tally, begin, take_sample};
 use crate::sample::sample_at;
-use crate::{Reader, Stage};
+use crate::{Reader, Stage, line};
+use refusals::Refused;
 
 // The reader after a byte, and where the text ends.
 #[derive(Clone, Copy)]
@@ -39,7 +39,13 @@ fn header_byte(r: Reader, b: u8, bank: &mut [u8], out: &mut [u8], at: usize) -> 
     }
     let mut h = r.kept;
     h[10] = b;
-    settle(begin(h, bank, out, at))
+    let none = Tally {
+        reports: 0,
+        samples: 0,
+        at,
+    };
+    let led = begin(h, bank, out, at);
+    settle(none, led, out)
 }
 
 // A byte of a sample: the 6th makes it whole.
@@ -53,7 +59,13 @@ fn sample_byte(r: Reader, b: u8, bank: &mut [u8], out: &mut [u8], at: usize) -> 
     let mut six = r.kept;
     six[5] = b;
     let s = sample_at(&six, 0);
-    settle(take_sample(r.reports, r.samples, bank, s, out, at))
+    let tally = Tally {
+        reports: r.reports,
+        samples: r.samples,
+        at,
+    };
+    let led = take_sample(tally, bank, s, out);
+    settle(tally, led, out)
 }
 
 // The byte is kept.
@@ -68,21 +80,36 @@ fn keep(r: Reader, b: u8, at: usize) -> Step
     Step { reader: next, at }
 }
 
-// The reader after a whole header or sample, which keeps no byte.
-pub(crate) fn settle(t: Led) -> Step
+// After a whole header or sample, from the tally t.
+fn settle(t: Tally, led: Result<Tally, Refused>, out: &mut [u8]) -> Step
+    requires { t.at + line_room ≤ length out.old }
+    ensures { Settles t led out.old result out.new }
+{
+    match led {
+        Ok(next) => go_on(next),
+        Err(refused) => refuse(t, refused, out),
+    }
+}
+
+// After one that is not refused: the samples go on, and no byte is kept.
+pub(crate) fn go_on(t: Tally) -> Step
     ensures { result ≡ step_of t }
 {
     Step {
-        reader: reader_at(stage_of(t.over), t.reports, t.samples),
+        reader: reader_at(Stage::InSamples, t.reports, t.samples),
         at: t.at,
     }
 }
 
-// Where the reader stands after a whole header or sample.
-fn stage_of(over: bool) -> Stage
-    ensures { result ≡ (if over then Over else InSamples) }
+// After one that is refused: the line `refused N`, and the listing is over.
+pub(crate) fn refuse(t: Tally, refused: Refused, out: &mut [u8]) -> Step
+    requires { t.at + line_room ≤ length out.old }
+    ensures { Refuses t refused out.old result out.new }
 {
-    if over { Stage::Over } else { Stage::InSamples }
+    Step {
+        reader: reader_at(Stage::Over, t.reports, t.samples),
+        at: line::put_refused(refused, out, t.at),
+    }
 }
 
 // A reader that keeps no byte.

@@ -6,14 +6,15 @@ mod feeding;
 mod line;
 mod sample;
 
-ghost use Rattle.std.specs.Prelude.{◌≡◌, ◌+◌, ◌<◌, ◌≤◌, false, length};
+ghost use Rattle.std.specs.Prelude.{◌≡◌, ◌+◌, ◌<◌, ◌≤◌, length};
 ghost use Rattle.text.specs.Put.{Wrote};
 ghost use Rattle.phs.specs.Lines.{line_room};
 ghost use Rattle.phs.specs.Stream.{started, last, Reading, Finishing};
 ghost use Rattle.phs.specs.Inside.{step_of, begins_in, Onward};
 
-use byte::{Step, reader_at, settle, take_byte};
-use feeding::{Led, take_sample};
+use byte::{Step, go_on, reader_at, refuse, take_byte};
+use feeding::{Tally, take_sample};
+use refusals::Refused;
 use sample::sample_at;
 
 // The room that any line has enough of.
@@ -97,12 +98,12 @@ fn put_end(r: Reader, out: &mut [u8]) -> usize
 {
     let stage = r.stage;
     match stage {
-        Stage::InHeader => line::put_refused(14, out, 0),
+        Stage::InHeader => line::put_refused(Refused::HeaderCut, out, 0),
         Stage::InSamples => {
             if r.held == 0 {
                 line::put_last(r.reports, r.samples, out, 0)
             } else {
-                line::put_refused(15, out, 0)
+                line::put_refused(Refused::SampleCut, out, 0)
             }
         }
         Stage::Over => 0,
@@ -118,57 +119,41 @@ fn advance(r: Reader, bank: &mut [u8], part: &[u8], i: usize, out: &mut [u8], at
     ensures read_grows { i < result.read }
 {
     if begins_sample(r, part.len() - i) {
-        let led = Led {
-            over: false,
+        let tally = Tally {
             reports: r.reports,
             samples: r.samples,
             at,
         };
-        return take_samples(led, bank, part, i, out);
+        return take_samples(tally, bank, part, i, out);
     }
     reached(take_byte(r, part[i], bank, out, at), i + 1)
 }
 
 // Whole samples, from one that is whole and has room for a line, for as long as the part has them, there is room and none is refused.
-fn take_samples(t: Led, bank: &mut [u8], part: &[u8], from: usize, out: &mut [u8]) -> Moved
-    requires { (t.over ≡ false) × (from + 6 ≤ length part.now) × (t.at + line_room ≤ length out.old) }
+fn take_samples(t: Tally, bank: &mut [u8], part: &[u8], from: usize, out: &mut [u8]) -> Moved
+    requires { (from + 6 ≤ length part.now) × (t.at + line_room ≤ length out.old) }
     ensures onward { Onward part.now
         (record { reader = (step_of t).reader; bank = bank.old; out = out.old; read = from; written = t.at })
         (record { reader = result.reader; bank = bank.new; out = out.new; read = result.read; written = result.written }) }
     ensures read_grows { from < result.read }
 {
-    let mut led = t;
+    let mut tally = t;
     let mut i = from;
-    while 6 <= part.len() - i {
-        if led.over {
-            break;
+    while (6 <= part.len() - i) & (LINE <= out.len() - tally.at) {
+        match take_sample(tally, bank, sample_at(part, i), out) {
+            Ok(next) => tally = next,
+            Err(refused) => return reached(refuse(tally, refused, out), i + 6),
         }
-        if out.len() - led.at < LINE {
-            break;
-        }
-        led = take_sample(
-            led.reports,
-            led.samples,
-            bank,
-            sample_at(part, i),
-            out,
-            led.at,
-        );
         i += 6;
     }
-    reached(settle(led), i)
+    reached(go_on(tally), i)
 }
 
 // Whether the next of these bytes begins a sample that is whole in them.
 fn begins_sample(r: Reader, left: usize) -> bool
     ensures { result ≡ begins_in r.stage r left }
 {
-    let stage = r.stage;
-    match stage {
-        Stage::InSamples => (r.held == 0) & (6 <= left),
-        Stage::InHeader => false,
-        Stage::Over => false,
-    }
+    matches!(r.stage, Stage::InSamples) & (r.held == 0) & (6 <= left)
 }
 
 // A step that ends this far in the part.

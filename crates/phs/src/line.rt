@@ -2,17 +2,24 @@
 ghost use Rattle.std.specs.Prelude.{◌≡◌, ◌+◌, ◌≤◌, ◌∷◌, length, replicate};
 ghost use Rattle.text.specs.declared.Word.TheVariants.{Number, Blank};
 ghost use Rattle.text.specs.Put.{Wrote};
+ghost use Rattle.refusals.specs.Refusals.{number_of};
 ghost use Rattle.phs.specs.Lines.{head_line, report_line, last_line, refused_line, line_room};
 
 use feed::Report;
+use header::Header;
+use refusals::Refused;
 use text::Word;
 
 // `PHS version nominal rate`
-pub(crate) fn put_head(version: u16, nominal: u8, rate: u8, out: &mut [u8], at: usize) -> usize
+pub(crate) fn put_head(h: Header, out: &mut [u8], at: usize) -> usize
     requires { at + line_room ≤ length out.old }
-    ensures { Wrote line_room (head_line version nominal rate) out.old at result out.new }
+    ensures { Wrote line_room (head_line h.version h.nominal h.rate) out.old at result out.new }
 {
-    let words = counts(version as u64, nominal as u64, rate as u64);
+    let words = counts(
+        u64::from(h.version),
+        u64::from(h.nominal),
+        u64::from(h.rate),
+    );
     text::put(b"PHS % % %\n", words, out, at)
 }
 
@@ -22,13 +29,13 @@ pub(crate) fn put_report(r: Report, out: &mut [u8], at: usize) -> usize
     ensures { Wrote line_room (report_line r.soc r.frame r.re r.im r.d1 r.d2 r.mark) out.old at result out.new }
 {
     let words = [
-        Word::Number(r.soc as u64),
-        Word::Number(r.frame as u64),
+        Word::Number(u64::from(r.soc)),
+        Word::Number(u64::from(r.frame)),
         Word::Whole(r.re),
         Word::Whole(r.im),
-        Word::Whole(r.d1 as i64),
-        Word::Whole(r.d2 as i64),
-        Word::Number(r.mark as u64),
+        Word::Whole(i64::from(r.d1)),
+        Word::Whole(i64::from(r.d2)),
+        Word::Number(u64::from(r.mark)),
         Word::Blank,
         Word::Blank,
         Word::Blank,
@@ -51,11 +58,12 @@ pub(crate) fn put_last(reports: u64, samples: u64, out: &mut [u8], at: usize) ->
 }
 
 // `refused N`
-pub(crate) fn put_refused(number: u8, out: &mut [u8], at: usize) -> usize
+pub(crate) fn put_refused(refused: Refused, out: &mut [u8], at: usize) -> usize
     requires { at + line_room ≤ length out.old }
-    ensures { Wrote line_room (refused_line number) out.old at result out.new }
+    ensures { Wrote line_room (refused_line (number_of refused)) out.old at result out.new }
 {
-    text::put(b"refused %\n", counts(number as u64, 0, 0), out, at)
+    let number = u64::from(refused.number());
+    text::put(b"refused %\n", counts(number, 0, 0), out, at)
 }
 
 // Three counts. A form with fewer `%` leaves the others out.

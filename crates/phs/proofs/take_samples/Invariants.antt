@@ -1,4 +1,4 @@
--- Each sample goes on from where the last one ended, and before the first the listing stands where it stood. Assumes nothing.
+-- Each sample goes on from where the last one ended, and before the first the text ends where it ended. Assumes nothing.
 use Rattle.std.proofs.Common.{◌≡◌, ◌-◌, length}
 use Rattle.phs.specs.Inside.{step_of, Onward}
 use Rattle.phs.proofs.take_samples.Given as goal
@@ -6,9 +6,9 @@ use Rattle.phs.proofs.take_samples.Given as goal
 abbrev pub invariant-loop-i : goal.invariant-loop-i
 invariant-loop-i l = record {
   onward : Onward l.part
-      (record { reader = (step_of l.initial.led).reader; bank = l.initial.bank; out = l.initial.out; read = l.initial.i; written = l.initial.led.at })
-      (record { reader = (step_of l.led).reader; bank = l.bank; out = l.out; read = l.i; written = l.led.at });
-  first : l.i ≡ l.initial.i → l.led ≡ l.initial.led;
+      (record { reader = (step_of l.initial.tally).reader; bank = l.initial.bank; out = l.initial.out; read = l.initial.i; written = l.initial.tally.at })
+      (record { reader = (step_of l.tally).reader; bank = l.bank; out = l.out; read = l.i; written = l.tally.at });
+  first : l.i ≡ l.initial.i → l.tally ≡ l.initial.tally;
 }
 
 abbrev pub decreases-loop-i : goal.decreases-loop-i

@@ -1,5 +1,6 @@
 -- `sample_byte`, by how many bytes are kept. Assumes nothing.
 use Rattle.std.proofs.Common.{◌≡◌, length, arith, length-set, rules}
+use Rattle.phs.proofs.Answering.{settles}
 use Rattle.phs.proofs.Stepping.{sample_more, sample_ends}
 use Rattle.phs.proofs.byte.sample_byte.Goals as goal
 
@@ -12,4 +13,6 @@ sample_at-s-requires c =
     omega (arith, length-set c.args.r.kept 5 c.args.b)
 
 pub returns : goal.returns
-returns c = sample_ends c.args.r c.args.bank.now c.args.b c.if-r-lt5.false c.sample_at-s.ensures c.settle.ensures c.take_sample.ensures
+returns c =
+    sample_ends c.args.r c.args.bank.now c.args.b c.if-r-lt5.false c.sample_at-s.ensures
+    (settles _ c.take_sample-led.result _ c.take_sample-led.ensures c.settle.ensures)

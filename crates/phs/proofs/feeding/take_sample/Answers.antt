@@ -1,20 +1,19 @@
 -- `take_sample`, by what the push answers. Assumes nothing.
-use Rattle.std.proofs.Common.{◌^◌, ◌<◌, rules}
+use Rattle.std.proofs.Common.{◌≡◌, ◌^◌, ◌<◌, Err, refl, rules}
 use Rattle.phs.proofs.Answering.{sample_refused, sample_taken, sample_reported}
 use Rattle.phs.proofs.feeding.take_sample.Goals as goal
 
-pub returns-in-Refused : goal.returns-in-Refused
-returns-in-Refused c =
-    let reports_fit : c.args.reports < 2 ^ 64 = search rules in
-    let samples_fit : c.args.samples < 2 ^ 64 = search rules in
-    sample_refused c.args.reports c.args.samples _ _ c.push-answer.ensures reports_fit samples_fit c.in-Refused.is c.refuse.ensures
+pub returns-in_err-due : goal.returns-in_err-due
+returns-in_err-due c =
+    let reports_fit : c.args.t.reports < 2 ^ 64 = search rules in
+    let samples_fit : c.args.t.samples < 2 ^ 64 = search rules in
+    let is : c.from_residual.result ≡ Err c.in_err-due.field-0.0 = search rules in
+    rw is (sample_refused c.args.t _ reports_fit samples_fit c.in_err-due.ensures, refl)
 
-pub returns-in-Taken : goal.returns-in-Taken
-returns-in-Taken c =
-    let reports_fit : c.args.reports < 2 ^ 64 = search rules in
-    sample_taken c.args.reports c.args.samples _ _ c.push-answer.ensures reports_fit c.in-Taken.is c.wrapping_add_u64-counted.ensures.value
+pub returns-in-None : goal.returns-in-None
+returns-in-None c =
+    let reports_fit : c.args.t.reports < 2 ^ 64 = search rules in
+    sample_taken c.args.t reports_fit (rw c.in-None.is at c.in_ok-due.ensures) refl
 
-pub returns-in-Reported : goal.returns-in-Reported
-returns-in-Reported c =
-    sample_reported c.args.reports c.args.samples _ _ c.push-answer.ensures c.in-Reported.is
-    c.wrapping_add_u64.ensures.value c.wrapping_add_u64-counted.ensures.value c.put_report.ensures
+pub returns-in-Some : goal.returns-in-Some
+returns-in-Some c = sample_reported c.args.t (rw c.in-Some.is at c.in_ok-due.ensures) refl refl c.put_report.ensures
