@@ -4,7 +4,8 @@
 use mathlib.Core.Path.{◌≡◌, refl, sym, ap, ap₂, ◌∙◌, subst}
 use mathlib.Core.Bool.{Bool, ◌&&◌}
 use Prim.Native.Nat.{ℕ, ◌+◌, ◌*◌, ◌^◌, ◌≤◌, ◌<◌}
-use native.Mathlib.Nat.{le_refl, le_trans, add-le-add}
+use native.Mathlib.Nat.{le_refl, le_trans}
+use native.Mathlib.Omega.{arith}
 use lib.Dec.{T, leb, ltb, ltb→lt, leb→le}
 use lib.IntN.{ℤ, pos, neg_ℤ, nat_abs, ◌+ℤ◌, ◌-ℤ◌, ◌*ℤ◌, +ℤ_idl}
 use lib.Signed.{shr_z, nat_abs-le}
@@ -32,8 +33,8 @@ reach less m n = m + n
 reach times m n = m * n
 
 reaches : (o : Op) (a b : ℤ) {m n : ℕ} → nat_abs a ≤ m → nat_abs b ≤ n → nat_abs (apply o a b) ≤ reach o m n
-reaches plus a b p q = le_trans (size_add a b) (add-le-add p q)
-reaches less a b p q = le_trans (size_minus a b) (add-le-add p q)
+reaches plus a b p q = omega (arith, size_add a b)
+reaches less a b p q = omega (arith, size_minus a b)
 reaches times a b p q = size_mul_le a b p q
 
 -- ---- expressions
@@ -125,19 +126,19 @@ within (cast v z f) = nat_abs-le z f.sfits
 within (local n z b e h) = h
 within (lit z) = le_refl (nat_abs z)
 within (both o x y) = reaches o (val x) (val y) (within x) (within y)
-within (neg x) = subst (λ (n : ℕ). n ≤ bound x) (sym (size_neg (val x))) (within x)
-within (shift x k) = le_trans (floor_smaller (val x) (2 ^ k)) (within x)
+within (neg x) = omega (arith, size_neg (val x), within x)
+within (shift x k) = omega (arith, floor_smaller (val x) (2 ^ k), within x)
 
 -- the tests of the two parts, and of what joins them
 module _ {w : Width} (o : Op) (x y : Exp w) (t : T (small (both o x y))) where
+  parts : T (small x && small y) × T (ltb (reach o (bound x) (bound y)) (2 ^ hbits w))
+  parts = and_yes (small x && small y) (ltb (reach o (bound x) (bound y)) (2 ^ hbits w)) t
+
   left : T (small x)
-  left = (and_yes (small x) (small y) (and_yes (small x && small y) (ltb (reach o (bound x) (bound y)) (2 ^ hbits w)) t).0).0
+  left = (and_yes (small x) (small y) parts.0).0
 
   right : T (small y)
-  right = (and_yes (small x) (small y) (and_yes (small x && small y) (ltb (reach o (bound x) (bound y)) (2 ^ hbits w)) t).0).1
-
-  joined : T (ltb (reach o (bound x) (bound y)) (2 ^ hbits w))
-  joined = (and_yes (small x && small y) (ltb (reach o (bound x) (bound y)) (2 ^ hbits w)) t).1
+  right = (and_yes (small x) (small y) parts.0).1
 
 room : {w : Width} (e : Exp w) → T (small e) → bound e < 2 ^ hbits w
 room {w} (whole z b h) t = ltb→lt b (2 ^ hbits w) t
@@ -145,7 +146,7 @@ room {w} (count n b h) t = ltb→lt b (2 ^ hbits w) t
 room {w} (cast v z f) t = ltb→lt (2 ^ hbits v) (2 ^ hbits w) t
 room {w} (local n z b e h) t = ltb→lt b (2 ^ hbits w) t
 room {w} (lit z) t = ltb→lt (nat_abs z) (2 ^ hbits w) t
-room {w} (both o x y) t = ltb→lt (reach o (bound x) (bound y)) (2 ^ hbits w) (joined o x y t)
+room {w} (both o x y) t = ltb→lt (reach o (bound x) (bound y)) (2 ^ hbits w) (parts o x y t).1
 room {w} (neg x) t = room x t
 room {w} (shift x k) t = room x t
 
@@ -183,14 +184,14 @@ raw_is {w} (shift x k) t = shifted (to_z w (bits_of x)) (val x) k (at x t)
 
 -- so the last operation does not overflow
 pub fits : {w : Width} (e : Exp w) → T (small e) → SFits w (raw e)
-fits {w} e t = subst (SFits w) (sym (raw_is e t)) (val_fits e t)
+fits e t = rw (raw_is e t) (val_fits e t)
 
 -- what the machine reads is within the bound
 pub sized : {w : Width} (e : Exp w) → T (small e) → nat_abs (to_z w (bits_of e)) ≤ bound e
-sized e t = subst (λ (z : ℤ). nat_abs z ≤ bound e) (sym (at e t)) (within e)
+sized e t = rw (at e t) (within e)
 
 -- a number whose bound is at most 2 ^ 53 becomes an f64 and loses nothing
 pub exact : {w : Width} (e : Exp w) → T (small e && leb (bound e) (2 ^ 53)) → T (in_float binary64 (to_z w (bits_of e)))
 exact {w} e t =
     let b = and_yes (small e) (leb (bound e) (2 ^ 53)) t in
-    subst (λ (z : ℤ). T (in_float binary64 z)) (sym (at e b.0)) (size_whole (val e) (le_trans (within e) (leb→le (bound e) (2 ^ 53) b.1)))
+    rw (at e b.0) (size_whole (val e) (le_trans (within e) (leb→le (bound e) (2 ^ 53) b.1)))
