@@ -1,5 +1,4 @@
 -- The laws of `runs`.
-pub mod Centres
 pub mod Windows
 pub mod Feeds
 pub mod Unique
