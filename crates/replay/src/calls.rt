@@ -1,164 +1,121 @@
 // Each kind of record as a call of the library. The numbers given to the readers are the places of a record's arguments.
-ghost use Rattle.std.specs.Prelude.{◌≡◌, ◌+◌, ◌≤◌, ◌<◌, length};
-
-use crate::lines::{put_bytes, put_salvaged};
-use crate::script::{byte_at, frame_length, i16_at, i32_at, u16_at, u32_at};
-use crate::up_to;
-use bank::Settled;
-use feed::Answer;
+use crate::script::Record;
+use feed::Report;
 use frames::{Configured, Frame, Tag};
-use model::Sample;
-use runs::Measured;
-use verdict::{Device, Judged, Reference};
+use model::{Figures, Sample};
+use refusals::Refused;
+use salvage::MendedSlot;
+use verdict::{Device, Reference, Verdict};
 
-// How many bytes of the memory a bank call is lent: the first `len`, or all where `len` is more.
-fn lent(script: &[u8], memory: &[u8]) -> usize
-    ensures { result ≤ length memory.now }
-{
-    let len = u16_at(script, 1) as usize;
-    if len < memory.len() {
-        len
-    } else {
-        memory.len()
-    }
+// The bytes of the memory that a bank call is lent: the first `len`, or all where there are fewer.
+fn lent<'a>(record: Record, memory: &'a mut [u8]) -> &'a mut [u8] {
+    let len = usize::from(record.u16_at(1)).min(memory.len());
+    &mut memory[..len]
 }
 
-// The calls that settle something: `C`, `O` and `X`.
-pub(crate) fn settle(script: &[u8], memory: &mut [u8]) -> Settled {
-    let n = lent(script, memory);
-    settle_in(script, &mut memory[0..n])
+// `C`: len.
+pub(crate) fn clear(record: Record, memory: &mut [u8]) -> Result<(), Refused> {
+    bank::clear(lent(record, memory))
 }
 
-// `C`: len. `O`: len, slot, nominal, rate, SOC. `X`: len, slot.
-fn settle_in(script: &[u8], bank: &mut [u8]) -> Settled {
-    let letter = byte_at(script, 0);
-    let slot = byte_at(script, 3);
-    match letter {
-        b'C' => bank::clear(bank),
-        b'X' => bank::close(bank, slot),
-        _ => {
-            let nominal = byte_at(script, 4);
-            let rate = byte_at(script, 5);
-            let soc = u32_at(script, 6);
-            bank::open(bank, slot, nominal, rate, soc)
-        }
-    }
+// `O`: len, slot, nominal, rate, SOC.
+pub(crate) fn open(record: Record, memory: &mut [u8]) -> Result<(), Refused> {
+    let slot = record.u8_at(3);
+    let nominal = record.u8_at(4);
+    let rate = record.u8_at(5);
+    let soc = record.u32_at(6);
+    bank::open(lent(record, memory), slot, nominal, rate, soc)
 }
 
 // `P`: len, slot, a, b, c.
-pub(crate) fn push(script: &[u8], memory: &mut [u8]) -> Answer {
-    let n = lent(script, memory);
-    let slot = byte_at(script, 3);
+pub(crate) fn push(record: Record, memory: &mut [u8]) -> Result<Option<Report>, Refused> {
+    let slot = record.u8_at(3);
     let sample = Sample {
-        a: i16_at(script, 4),
-        b: i16_at(script, 6),
-        c: i16_at(script, 8),
+        a: record.i16_at(4),
+        b: record.i16_at(6),
+        c: record.i16_at(8),
     };
-    bank::push(&mut memory[0..n], slot, sample)
+    bank::push(lent(record, memory), slot, sample)
+}
+
+// `X`: len, slot.
+pub(crate) fn close(record: Record, memory: &mut [u8]) -> Result<(), Refused> {
+    bank::close(lent(record, memory), record.u8_at(3))
 }
 
 // `M`: len.
-pub(crate) fn mend(script: &[u8], memory: &mut [u8], out: &mut [u8], at: usize) -> usize
-    requires { at + 1024 ≤ length out.old }
-    ensures { result ≤ length out.new }
-{
-    let n = lent(script, memory);
-    let salvaged = salvage::mend(&mut memory[0..n]);
-    put_salvaged(salvaged, out, at)
+pub(crate) fn mend(record: Record, memory: &mut [u8]) -> Result<[MendedSlot; 16], Refused> {
+    salvage::mend(lent(record, memory))
 }
 
 // `S`: at, value. Nothing where the memory has no such byte.
-pub(crate) fn set(script: &[u8], memory: &mut [u8]) {
-    let at = u16_at(script, 1) as usize;
-    if at < memory.len() {
-        memory[at] = byte_at(script, 3);
+pub(crate) fn set(record: Record, memory: &mut [u8]) {
+    if let Some(byte) = memory.get_mut(usize::from(record.u16_at(1))) {
+        *byte = record.u8_at(3);
     }
 }
 
-// `D`: slot. No line where the memory has no such slot.
-pub(crate) fn show(script: &[u8], memory: &[u8], out: &mut [u8], at: usize) -> usize
-    requires { at + 1024 ≤ length out.old }
-    ensures { result ≤ length out.new }
-{
-    let start = 256 * byte_at(script, 1) as usize;
-    let end = start + 256;
-    if end <= memory.len() {
-        put_bytes(&memory[start..end], out, at)
-    } else {
-        at
-    }
+// `D`: slot. None where the memory has no such slot.
+pub(crate) fn show<'a>(record: Record, memory: &'a [u8]) -> Option<&'a [u8; 256]> {
+    memory.as_chunks().0.get(record.size_at(1))
 }
 
-// No samples yet, and room for as many as a record can have of a phase.
-fn no_samples() -> [i16; 255]
-    ensures { length result ≡ 255 }
-{
-    [0; 255]
-}
-
-// A run of n samples, from a place of the script on.
-fn run_at(script: &[u8], from: usize, n: usize) -> [i16; 255]
-    requires { (from < 65000) × (n ≤ 255) }
-    ensures { n ≤ length result }
-{
-    let mut samples = no_samples();
-    let mut i = 0;
-    while i < n {
-        samples[i] = i16_at(script, from + 2 * i);
-        i += 1;
+// The samples from a place of the record on, as many as a record can have of a phase: a run is the first of them.
+fn samples_at(record: Record, from: usize) -> [i16; 255] {
+    let mut samples = [0; 255];
+    for (sample, bytes) in samples
+        .iter_mut()
+        .zip(record.bytes_from(from).as_chunks().0)
+    {
+        *sample = i16::from_be_bytes(*bytes);
     }
     samples
 }
 
 // `W`: nominal, centre, three lengths, then the samples of a, of b and of c.
-pub(crate) fn measure(script: &[u8]) -> Measured {
-    let nominal = byte_at(script, 1);
-    let centre = u32_at(script, 2) as usize;
-    let n_a = byte_at(script, 6) as usize;
-    let n_b = byte_at(script, 7) as usize;
-    let n_c = byte_at(script, 8) as usize;
-    let a = run_at(script, 9, n_a);
-    let b = run_at(script, 9 + 2 * n_a, n_b);
-    let c = run_at(script, 9 + 2 * (n_a + n_b), n_c);
-    runs::measure(&a[0..n_a], &b[0..n_b], &c[0..n_c], centre, nominal)
+pub(crate) fn measure(record: Record) -> Result<Figures, Refused> {
+    let nominal = record.u8_at(1);
+    let centre = record.u32_at(2) as usize;
+    let n_a = record.size_at(6);
+    let n_b = record.size_at(7);
+    let n_c = record.size_at(8);
+    let a = samples_at(record, 9);
+    let b = samples_at(record, 9 + 2 * n_a);
+    let c = samples_at(record, 9 + 2 * (n_a + n_b));
+    runs::measure(&a[..n_a], &b[..n_b], &c[..n_c], centre, nominal)
 }
 
 // `J`: class, test, m, the device's four numbers, the reference's four.
-pub(crate) fn judge(script: &[u8]) -> Judged {
-    let class = byte_at(script, 1);
-    let test = byte_at(script, 2);
-    let m = i32_at(script, 3);
+pub(crate) fn judge(record: Record) -> Result<Option<Verdict>, Refused> {
+    let class = record.u8_at(1);
+    let test = record.u8_at(2);
+    let m = record.i32_at(3);
     let device = Device {
-        re: i16_at(script, 7),
-        im: i16_at(script, 9),
-        deviation: i16_at(script, 11),
-        rocof: i16_at(script, 13),
+        re: record.i16_at(7),
+        im: record.i16_at(9),
+        deviation: record.i16_at(11),
+        rocof: record.i16_at(13),
     };
     let reference = Reference {
-        re: i16_at(script, 15),
-        im: i16_at(script, 17),
-        deviation: i32_at(script, 19),
-        rocof: i32_at(script, 23),
+        re: record.i16_at(15),
+        im: record.i16_at(17),
+        deviation: record.i32_at(19),
+        rocof: record.i32_at(23),
     };
     verdict::judge(class, test, m, device, reference)
 }
 
 // `F`: nominal, rate, ID, TIME_BASE, SOC, frame, length, then the frame's bytes.
-pub(crate) fn read(script: &[u8]) -> Frame {
-    let nominal = byte_at(script, 1);
-    let rate = byte_at(script, 2);
-    let id = u16_at(script, 3);
-    let time_base = u32_at(script, 5);
+pub(crate) fn read(record: Record) -> Result<Frame, Refused> {
     let configured = Configured {
-        nominal,
-        rate,
-        id,
-        time_base,
+        nominal: record.u8_at(1),
+        rate: record.u8_at(2),
+        id: record.u16_at(3),
+        time_base: record.u32_at(5),
     };
-    let soc = u32_at(script, 9);
-    let frame = u32_at(script, 13);
-    let tag = Tag { soc, frame };
-    let end = up_to(frame_length(script), script.len());
-    let start = up_to(18, end);
-    frames::read_frame(&script[start..end], configured, tag)
+    let tag = Tag {
+        soc: record.u32_at(9),
+        frame: record.u32_at(13),
+    };
+    frames::read_frame(record.bytes_from(18), configured, tag)
 }

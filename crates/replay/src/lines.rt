@@ -1,248 +1,178 @@
-// The line of each answer, put into lent bytes from `at` on.
-ghost use Rattle.std.specs.Prelude.{◌+◌, ◌≤◌, length};
+// The lines of the answers, each put after those that are not written yet.
+ghost use Rattle.std.specs.Prelude.{◌≡◌, ◌+◌, ◌≤◌, length, OnOk};
 
-use bank::Settled;
-use feed::{Answer, Report};
+use feed::Report;
 use frames::Frame;
 use model::Figures;
-use runs::Measured;
-use salvage::{Ending, Fate, MendedSlot, Salvaged};
+use refusals::Refused;
+use salvage::{Fate, MendedSlot};
+use std::io;
+use std::num::f64_to_bits_with_nan;
 use text::Word;
-use verdict::{Device, Judged};
+use verdict::Verdict;
 
-// A line of a form with its words. `text::put` puts nothing where there is too little room: here there is always enough.
-fn put(form: &[u8], words: [Word; 11], out: &mut [u8], at: usize) -> usize
-    requires { (at + 1024 ≤ length out.old) × (length form.now ≤ 64) }
-    ensures { result ≤ length out.new }
-{
-    text::put(form, words, out, at)
+// Room for the line of any answer, the 1024 of the contracts.
+const LINE: usize = 1024;
+
+// The lines that are not written yet.
+#[derive(Drop)]
+pub(crate) struct Text {
+    bytes: [u8; 65536],
+    pub(crate) len: usize,
+    ghost within: { len ≤ 65536 },
 }
 
-// Three words and blanks.
-fn three(a: Word, b: Word, c: Word) -> [Word; 11] {
-    let mut words = [Word::Blank; 11];
-    words[0] = a;
-    words[1] = b;
-    words[2] = c;
-    words
-}
-
-// A line with no words.
-fn put_plain(form: &[u8], out: &mut [u8], at: usize) -> usize
-    requires { (at + 1024 ≤ length out.old) × (length form.now ≤ 64) }
-    ensures { result ≤ length out.new }
-{
-    put(form, [Word::Blank; 11], out, at)
-}
-
-// `refused N`
-fn put_refused(n: u8, out: &mut [u8], at: usize) -> usize
-    requires { at + 1024 ≤ length out.old }
-    ensures { result ≤ length out.new }
-{
-    let words = three(Word::Number(n as u64), Word::Blank, Word::Blank);
-    put(b"refused %\n", words, out, at)
-}
-
-// `done` or `refused N`
-pub(crate) fn put_settled(s: Settled, out: &mut [u8], at: usize) -> usize
-    requires { at + 1024 ≤ length out.old }
-    ensures { result ≤ length out.new }
-{
-    match s {
-        Settled::Refused(n) => put_refused(n, out, at),
-        Settled::Done => put_plain(b"done\n", out, at),
-    }
-}
-
-// `taken`, `report ..` or `refused N`
-pub(crate) fn put_answer(answer: Answer, out: &mut [u8], at: usize) -> usize
-    requires { at + 1024 ≤ length out.old }
-    ensures { result ≤ length out.new }
-{
-    match answer {
-        Answer::Refused(n) => put_refused(n, out, at),
-        Answer::Taken => put_plain(b"taken\n", out, at),
-        Answer::Reported(r) => put(b"report % % % % % % % % % % %\n", report_words(r), out, at),
-    }
-}
-
-// `mended` and sixteen words, or `refused N`
-pub(crate) fn put_salvaged(s: Salvaged, out: &mut [u8], at: usize) -> usize
-    requires { at + 1024 ≤ length out.old }
-    ensures { result ≤ length out.new }
-{
-    let ending = s.ending;
-    let slots = s.slots;
-    match ending {
-        Ending::Refused(n) => put_refused(n, out, at),
-        Ending::Mended => put_slots(slots, out, at),
-    }
-}
-
-// A part of a line, wherever it begins. There is room: a line of sixteen slots takes 200 bytes at the most, and a part asks for 240.
-fn put_part(form: &[u8], word: Word, out: &mut [u8], at: usize) -> usize
-    requires { at ≤ length out.old }
-    ensures { result ≤ length out.new }
-{
-    let words = three(word, Word::Blank, Word::Blank);
-    text::put(form, words, out, at)
-}
-
-// ` sound/N`, ` trimmed/N` or ` closed/N`
-fn put_slot(slot: MendedSlot, out: &mut [u8], at: usize) -> usize
-    requires { at ≤ length out.old }
-    ensures { result ≤ length out.new }
-{
-    let differing = Word::Number(slot.differing as u64);
-    let fate = slot.fate;
-    match fate {
-        Fate::Sound => put_part(b" sound/%", differing, out, at),
-        Fate::Trimmed => put_part(b" trimmed/%", differing, out, at),
-        Fate::Closed => put_part(b" closed/%", differing, out, at),
-    }
-}
-
-// `mended` and a word for each slot
-fn put_slots(slots: [MendedSlot; 16], out: &mut [u8], at: usize) -> usize
-    requires { at + 1024 ≤ length out.old }
-    ensures { result ≤ length out.new }
-{
-    let mut end = put_part(b"mended", Word::Blank, out, at);
-    let mut k: usize = 0;
-    while k < 16 {
-        let slot = slots[k];
-        end = put_slot(slot, out, end);
-        k += 1;
-    }
-    put_part(b"\n", Word::Blank, out, end)
-}
-
-// `figures ..` or `refused N`
-pub(crate) fn put_measured(m: Measured, out: &mut [u8], at: usize) -> usize
-    requires { at + 1024 ≤ length out.old }
-    ensures { result ≤ length out.new }
-{
-    match m {
-        Measured::Refused(n) => put_refused(n, out, at),
-        Measured::Given(f) => put(b"figures % % % % % % % % %\n", figures_words(f), out, at),
-    }
-}
-
-// `verdict T F R`, `left out` or `refused N`
-pub(crate) fn put_judged(j: Judged, out: &mut [u8], at: usize) -> usize
-    requires { at + 1024 ≤ length out.old }
-    ensures { result ≤ length out.new }
-{
-    match j {
-        Judged::Refused(n) => put_refused(n, out, at),
-        Judged::LeftOut => put_plain(b"left out\n", out, at),
-        Judged::Verdicts(v) => {
-            let words = three(within(v.tve), within(v.fe), within(v.rfe));
-            put(b"verdict % % %\n", words, out, at)
+impl Text {
+    pub(crate) fn new() -> Text {
+        Text {
+            bytes: [0; 65536],
+            len: 0,
         }
     }
-}
 
-// `reading re im freq rocof quality` or `refused N`
-pub(crate) fn put_frame(f: Frame, out: &mut [u8], at: usize) -> usize
-    requires { at + 1024 ≤ length out.old }
-    ensures { result ≤ length out.new }
-{
-    match f {
-        Frame::Refused(n) => put_refused(n, out, at),
-        Frame::Reads { device, quality } => {
-            let words = reading_words(device, quality);
-            put(b"reading % % % % %\n", words, out, at)
+    // Writes the lines, after which there are none.
+    pub(crate) fn flush(&mut self, rt: &HostRuntime) -> io::Result<()>
+        ensures { OnOk result (self.new.len ≡ 0) }
+    {
+        rt.stdout().write_all(&self.bytes[..self.len])?;
+        self.len = 0;
+        Ok(())
+    }
+
+    // Makes room for a line: writes those before it where there is too little.
+    pub(crate) fn make_room(&mut self, rt: &HostRuntime) -> io::Result<()>
+        ensures { OnOk result (self.new.len + 1024 ≤ 65536) }
+    {
+        if self.bytes.len() - self.len < LINE {
+            self.flush(rt)?;
+        }
+        Ok(())
+    }
+
+    // A line of a form with its words, or a part of one. `text::put` puts nothing where there is too little room: in the 1024 bytes that a line begins
+    // with there is always enough.
+    fn put(&mut self, form: &[u8], words: &[Word])
+        requires { length words.now ≤ 11 }
+    {
+        let mut all = [Word::Blank; 11];
+        all[..words.len()].copy_from_slice(words);
+        self.len = text::put(form, all, &mut self.bytes, self.len);
+    }
+
+    // `refused N`
+    pub(crate) fn refused(&mut self, r: Refused) {
+        self.put(b"refused %\n", &[number(r.number())]);
+    }
+
+    // `done`
+    pub(crate) fn done(&mut self) {
+        self.put(b"done\n", &[]);
+    }
+
+    // `taken`, or `report ..`: SOC, frame, re, im, d1, d2, mark, and the four floats' bits
+    pub(crate) fn taken(&mut self, report: Option<Report>) {
+        let Some(r) = report else {
+            return self.put(b"taken\n", &[]);
+        };
+        let words = [
+            number(r.soc),
+            number(r.frame),
+            Word::Whole(r.re),
+            Word::Whole(r.im),
+            whole(r.d1),
+            whole(r.d2),
+            number(r.mark),
+            bits(r.re_peak),
+            bits(r.im_peak),
+            bits(r.deviation),
+            bits(r.rocof),
+        ];
+        self.put(b"report % % % % % % % % % % %\n", &words);
+    }
+
+    // `mended`, and ` sound/N`, ` trimmed/N` or ` closed/N` for each slot
+    pub(crate) fn mended(&mut self, slots: [MendedSlot; 16]) {
+        self.put(b"mended", &[]);
+        for slot in slots {
+            let differing = [number(slot.differing)];
+            match slot.fate {
+                Fate::Sound => self.put(b" sound/%", &differing),
+                Fate::Trimmed => self.put(b" trimmed/%", &differing),
+                Fate::Closed => self.put(b" closed/%", &differing),
+            }
+        }
+        self.put(b"\n", &[]);
+    }
+
+    // `figures ..`, the words of a report without SOC and frame
+    pub(crate) fn figures(&mut self, f: Figures) {
+        let words = [
+            Word::Whole(f.re),
+            Word::Whole(f.im),
+            whole(f.d1),
+            whole(f.d2),
+            number(f.mark),
+            bits(f.re_peak),
+            bits(f.im_peak),
+            bits(f.deviation),
+            bits(f.rocof),
+        ];
+        self.put(b"figures % % % % % % % % %\n", &words);
+    }
+
+    // `verdict T F R`, 1 within and 0 not, or `left out`
+    pub(crate) fn judged(&mut self, verdict: Option<Verdict>) {
+        match verdict {
+            Some(v) => {
+                let words = [number(v.tve), number(v.fe), number(v.rfe)];
+                self.put(b"verdict % % %\n", &words);
+            }
+            None => self.put(b"left out\n", &[]),
         }
     }
-}
 
-// 1 within, 0 not.
-fn within(is_within: bool) -> Word {
-    if is_within {
-        Word::Number(1)
-    } else {
-        Word::Number(0)
+    // `reading re im freq rocof quality`
+    pub(crate) fn reading(&mut self, f: Frame) {
+        let words = [
+            whole(f.device.re),
+            whole(f.device.im),
+            whole(f.device.deviation),
+            whole(f.device.rocof),
+            number(f.quality),
+        ];
+        self.put(b"reading % % % % %\n", &words);
+    }
+
+    // `bytes ` and two hexadecimal digits for each byte
+    pub(crate) fn bytes(&mut self, bytes: &[u8; 256]) {
+        self.put(b"bytes ", &[]);
+        self.len = text::put_hex(bytes, &mut self.bytes, self.len);
+        self.put(b"\n", &[]);
+    }
+
+    // `bad record`
+    pub(crate) fn bad_record(&mut self) {
+        self.put(b"bad record\n", &[]);
     }
 }
 
-// `bytes ` and two hexadecimal digits for each byte.
-pub(crate) fn put_bytes(bytes: &[u8], out: &mut [u8], at: usize) -> usize
-    requires { (at + 1024 ≤ length out.old) × (length bytes.now ≤ 256) }
-    ensures { result ≤ length out.new }
+// A count.
+fn number<N>(n: N) -> Word
+where
+    u64: From<N>,
 {
-    let digits = text::put(b"bytes ", [Word::Blank; 11], out, at);
-    let end = text::put_hex(bytes, out, digits);
-    text::put(b"\n", [Word::Blank; 11], out, end)
+    Word::Number(u64::from(n))
 }
 
-// The bits of a float. A report's floats are quotients of whole numbers, so none is a NaN and the first case never happens.
+// A whole number.
+fn whole<Z>(z: Z) -> Word
+where
+    i64: From<Z>,
+{
+    Word::Whole(i64::from(z))
+}
+
+// The bits of a float. A report's floats are quotients of whole numbers, so none is a NaN.
 fn bits(x: f64) -> Word {
-    if x != x {
-        Word::Bits(0x7ff8000000000000)
-    } else {
-        Word::Bits(f64::to_bits(x))
-    }
-}
-
-// A 32-bit whole number.
-fn whole(z: i32) -> Word {
-    Word::Whole(z as i64)
-}
-
-// A device's figure, of 16 bits.
-fn figure(z: i16) -> Word {
-    whole(z as i32)
-}
-
-// The words of a report: SOC, frame, re, im, d1, d2, mark, and the four floats' bits.
-fn report_words(r: Report) -> [Word; 11] {
-    [
-        Word::Number(r.soc as u64),
-        Word::Number(r.frame as u64),
-        Word::Whole(r.re),
-        Word::Whole(r.im),
-        whole(r.d1),
-        whole(r.d2),
-        Word::Number(r.mark as u64),
-        bits(r.re_peak),
-        bits(r.im_peak),
-        bits(r.deviation),
-        bits(r.rocof),
-    ]
-}
-
-// The same without SOC and frame.
-fn figures_words(f: Figures) -> [Word; 11] {
-    [
-        Word::Whole(f.re),
-        Word::Whole(f.im),
-        whole(f.d1),
-        whole(f.d2),
-        Word::Number(f.mark as u64),
-        bits(f.re_peak),
-        bits(f.im_peak),
-        bits(f.deviation),
-        bits(f.rocof),
-        Word::Blank,
-        Word::Blank,
-    ]
-}
-
-// The words of a reading: the device's four figures, and the time quality.
-fn reading_words(device: Device, quality: u8) -> [Word; 11] {
-    [
-        figure(device.re),
-        figure(device.im),
-        figure(device.deviation),
-        figure(device.rocof),
-        Word::Number(quality as u64),
-        Word::Blank,
-        Word::Blank,
-        Word::Blank,
-        Word::Blank,
-        Word::Blank,
-        Word::Blank,
-    ]
+    Word::Bits(f64_to_bits_with_nan(x))
 }
