@@ -1,7 +1,7 @@
 -- Signed arithmetic in code, once for every expression and every width. An `Exp w` is what the code writes at the signed width w: `bits_of` is what
 -- the machine holds, `val` the whole number that it stands for, `bound` a bound on its size. Where the bounds of all its parts are below half the
 -- width's power, a test that antt computes, nothing wraps. Assumes nothing.
-use mathlib.Core.Path.{◌≡◌, refl, sym, ap, ap₂, ◌∙◌, subst}
+use mathlib.Core.Path.{◌≡◌, refl, ap, ap₂, ◌∙◌}
 use mathlib.Core.Bool.{Bool, ◌&&◌}
 use Prim.Native.Nat.{ℕ, ◌+◌, ◌*◌, ◌^◌, ◌≤◌, ◌<◌}
 use native.Mathlib.Nat.{le_refl, le_trans}
