@@ -9,11 +9,11 @@ use borrow.Author.Tests.{eq-eqb, eqb-true, ne_eqb, ltb-false, not-false}
 use lib.Dec.{eqb}
 use lib.IntN.{ℤ}
 use lib.ListN.{length, get_or}
+use Rattle.std.specs.Prelude.{Option, Some, Result, Ok}
 use Rattle.ints.proofs.Cases.{when_true, when_false}
+use Rattle.refusals.specs.declared.Refused.{Refused}
 use Rattle.model.specs.declared.report.Figures.{Figures}
 use Rattle.model.specs.Report.{figures_at, three_phase}
-use Rattle.feed.specs.declared.Answer.{Answer}
-use Rattle.feed.specs.declared.Answer.TheVariants.{Reported}
 use Rattle.feed.specs.declared.Report.{Report}
 use Rattle.sampling.specs.Tags.{nominal_of}
 use Rattle.feed.specs.Answers.{Said, refused as refused_with, said_report, said}
@@ -24,7 +24,6 @@ use Rattle.bank.specs.Damage.{is_free, is_open, is_damaged}
 use Rattle.bank.specs.Calls.{Outcome, refusing, push_refusals, pushed_at, Pushing}
 use Rattle.bank.proofs.Slots.{slot_length}
 use Rattle.bank.proofs.Keeping.{is_open_lem}
-use Rattle.runs.specs.declared.Measured.TheVariants.{Given}
 use Rattle.runs.specs.Runs.{refused, said_figures, sample_at, run_refusals, measured, RunMeasuring}
 use Rattle.runs.proofs.Unique.{unsaid}
 use Rattle.runs.proofs.Feeds.{due_held, same_measurement}
@@ -41,7 +40,7 @@ use Rattle.acceptance.proofs.Refusing.{given, granted, Through, met, passed, thr
 not_free : (s : List ℕ) → is_open s ≡ true → is_free s ≡ false
 not_free s e = ne_eqb (state_in s) 0 (λ z. omega (arith, z, eqb-true (state_in s) 1 e))
 
-each_push : (bank after : List ℕ) (slot : ℕ) (a b c : I16) (r : Answer) → Reached bank → length bank ≡ 4096 → slot ≤ 15
+each_push : (bank after : List ℕ) (slot : ℕ) (a b c : I16) (r : Result (Option Report) Refused) → Reached bank → length bank ≡ 4096 → slot ≤ 15
     → is_damaged (slot_at bank slot) ≡ false → is_open (slot_at bank slot) ≡ true → Pushing bank slot (sample_by a b c) r after
     → said r ≡ (told (history_of (feed_in (slot_at bank slot))) (sample_by a b c)).answer
 unfolding answers_of asks_of answers_alone stepped start_of
@@ -58,7 +57,7 @@ each_push bank after slot a b c r from size named sound opened p =
     ∙ (λ i. answers_alone (start i) (cond (named_so i) (samples a b c ∷ []) []))
     )
 
-each_report : (bank after : List ℕ) (slot : ℕ) (a b c : I16) (r : Report) → Reached bank → Pushing bank slot (sample_by a b c) (Reported r) after
+each_report : (bank after : List ℕ) (slot : ℕ) (a b c : I16) (r : Report) → Reached bank → Pushing bank slot (sample_by a b c) (Ok (Some r)) after
     → said_report r ≡ (told (history_of (feed_in (slot_at bank slot))) (sample_by a b c)).answer
 unfolding pushed_at
 each_report bank after slot a b c r from p = go (through (push_refusals bank slot))
@@ -66,15 +65,14 @@ each_report bank after slot a b c r from p = go (through (push_refusals bank slo
     go : Through (push_refusals bank slot) → said_report r ≡ (told (history_of (feed_in (slot_at bank slot))) (sample_by a b c)).answer
     go (met n d) =
         let e : said_report r ≡ refused_with n = ap (λ (o : Outcome). o.answer) (p ∙ given (refusing bank) _ d) in
-        let z : ◌≡◌ {A = ℕ} 0 1 = cc in
-        absurd (omega arith)
+        cc
     go (passed q) =
         let size = eqb-true (length bank) 4096 (not-false _ q.0) in
         let named = ltb-false 15 slot q.1.0 in
         let opened = is_open_lem (slot_at bank slot) (slot_length bank slot size named) q.1.1.0 q.1.1.1.0 in
-        each_push bank after slot a b c (Reported r) from size named q.1.1.0 opened p
+        each_push bank after slot a b c (Ok (Some r)) from size named q.1.1.0 opened p
 
-each_run : (a b c : List ℤ) (centre nominal : ℕ) (f : Figures) → RunMeasuring a b c centre nominal (Given f) → f ≡ figures_at three_phase (nominal_of nominal) (sample_at a b c) centre
+each_run : (a b c : List ℤ) (centre nominal : ℕ) (f : Figures) → RunMeasuring a b c centre nominal (Ok f) → f ≡ figures_at three_phase (nominal_of nominal) (sample_at a b c) centre
 unfolding measured
 each_run a b c centre nominal f p = go (through (run_refusals a b c centre nominal))
   where
@@ -84,9 +82,8 @@ each_run a b c centre nominal f p = go (through (run_refusals a b c centre nomin
     go : Through (run_refusals a b c centre nominal) → f ≡ rule
     go (met n d) =
         let e : said_figures f ≡ refused n = p ∙ given refused (said_figures rule) d in
-        let z : ◌≡◌ {A = ℕ} 0 1 = cc in
-        absurd (omega arith)
-    go (passed q) = let e : Given f ≡ Given rule = ap unsaid (p ∙ granted refused (said_figures rule) (run_refusals a b c centre nominal) q) in cc
+        cc
+    go (passed q) = let e : ◌≡◌ {A = Result Figures Refused} (Ok f) (Ok rule) = ap unsaid (p ∙ granted refused (said_figures rule) (run_refusals a b c centre nominal) q) in cc
 
 pub condition_b : ConditionB
 condition_b = record {

@@ -52,7 +52,7 @@ passes {frame} {configured} {tag} a = go (through (read_refusals frame configure
     go : Through (read_refusals frame configured tag) → Passed frame configured tag (figures a.device a.quality)
     go (met n f) =
         let other : refused n ≡ figures a.device a.quality = sym (given refused (figures_in frame) f) ∙ answered in
-        absurd (let z : ◌≡◌ {A = ℕ} 0 1 = cc in omega arith)
+        cc
     go (passed p) = record { none_due = p; says = sym (granted refused (figures_in frame) (read_refusals frame configured tag) p) ∙ answered }
 
 -- a field that has passed is what it should be

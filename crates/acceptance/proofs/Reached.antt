@@ -3,14 +3,13 @@ use mathlib.Core.Path.{◌≡◌, refl, sym, ap, subst}
 use mathlib.Core.Bool.{Bool, true, false, not, cond}
 use mathlib.Core.List.{List}
 use Prim.Native.Nat.{ℕ, ◌≤◌}
-use native.Mathlib.Omega.{arith}
 use lib.Dec.{eqb}
 use lib.ListN.{length}
 use borrow.Author.Tests.{eqb-true, eqb-false}
+use Rattle.std.specs.Prelude.{Result, Ok}
+use Rattle.refusals.specs.declared.Refused.{Refused}
 use Rattle.feed.specs.Answers.{Said, done, refused}
 use Rattle.feed.specs.Places.{zeros}
-use Rattle.bank.specs.declared.Settled.{Settled}
-use Rattle.bank.specs.declared.Settled.TheVariants.{Done}
 use Rattle.bank.specs.Slot.{slot_at, TrueIn}
 use Rattle.bank.specs.Calls.{Outcome, refusing, settled, cleared as cleared_to, Clearing}
 use Rattle.bank.proofs.Slots.{slot_length}
@@ -30,7 +29,7 @@ zeros_true : AllTrue (zeros 4096)
 zeros_true k h = subst TrueIn (sym (zeros_slot k h)) free_true
 
 -- clearing leaves zeros, or the bank as it was
-clearing_leaves : (bank after : List ℕ) (r : Settled) → Clearing bank r after → (Law : List ℕ → Type 0) → Law (zeros 4096) → Law bank → Law after
+clearing_leaves : (bank after : List ℕ) (r : Result (Unit {0}) Refused) → Clearing bank r after → (Law : List ℕ → Type 0) → Law (zeros 4096) → Law bank → Law after
 unfolding cleared_to
 clearing_leaves bank after r p Law zero same = go (not (eqb (length bank) 4096)) p
   where
@@ -38,12 +37,12 @@ clearing_leaves bank after r p Law zero same = go (not (eqb (length bank) 4096))
     go true e = subst Law (sym (ap (λ (o : Outcome). o.bank) e)) same
     go false e = subst Law (sym (ap (λ (o : Outcome). o.bank) e)) zero
 
-cleared_is : (bank after : List ℕ) → Clearing bank Done after → after ≡ zeros 4096
+cleared_is : (bank after : List ℕ) → Clearing bank (Ok tt) after → after ≡ zeros 4096
 unfolding cleared_to
 cleared_is bank after p = go (not (eqb (length bank) 4096)) p
   where
     go : (t : Bool) → record { answer = done; bank = after } ≡ cond t (refusing bank 1) (record { answer = done; bank = zeros 4096 }) → after ≡ zeros 4096
-    go true e = absurd (let d : done ≡ refused 1 = ap (λ (o : Outcome). o.answer) e in let z : ◌≡◌ {A = ℕ} 0 1 = cc in omega arith)
+    go true e = let d : done ≡ refused 1 = ap (λ (o : Outcome). o.answer) e in cc
     go false e = ap (λ (o : Outcome). o.bank) e
 
 -- ---- a call
@@ -76,7 +75,7 @@ run_true (goes_on {bank} {next} {c = c} p ran) t = run_true ran (λ k h. each_ca
 salvage_true : (image after : List ℕ) (slots : List MendedSlot) → Mends image slots after → AllTrue after
 salvage_true image after slots m k h = salvage_holds.all_true image slots after m k h
 
-cleared_true : (bank after : List ℕ) → Clearing bank Done after → AllTrue after
+cleared_true : (bank after : List ℕ) → Clearing bank (Ok tt) after → AllTrue after
 cleared_true bank after p = subst AllTrue (sym (cleared_is bank after p)) zeros_true
 
 reached_true : (bank : List ℕ) → Reached bank → AllTrue bank

@@ -20,7 +20,7 @@ use Rattle.feed.specs.Ring.{unserved, uneven, early, faulty, opened, next_head, 
 use Rattle.bank.specs.Slot.{slot_at, with_slot, head_in, head_bytes, places_in, kept_in, kept_bytes, tail_in, tail_of, feed_in, slot_of, free_slot}
 use Rattle.bank.specs.Damage.{blank, flag_over, stray, is_damaged}
 use Rattle.bank.specs.Calls.{Outcome, cleared, opened_at, pushed_at, closed_at}
-use Rattle.salvage.specs.Image.{salvaged, Outcome as Salvage, Said as SalvageSaid, refused as salvage_refused, mended, said as salvage_said}
+use Rattle.salvage.specs.Image.{salvaged, Outcome as Salvage, Said as SalvageSaid, refused as salvage_refused, mended}
 use Rattle.runs.specs.Runs.{measured, Said as RunSaid, refused as run_refused, figures}
 use Rattle.verdict.specs.Errors.{errors_of}
 use Rattle.verdict.specs.Judging.{verdict_on, judgement}
@@ -89,16 +89,16 @@ same_size p q = ap nat_abs (sym p ∙ q)
 refuses_everything : RefusesEverything
 unfolding cleared opened_at pushed_at closed_at salvaged slot_at with_slot head_in head_bytes places_in kept_in kept_bytes tail_in tail_of feed_in slot_of free_slot blank flag_over stray is_damaged unserved uneven early faulty opened next_head stored history_of pushed zeros served_rate kept_rate sample_of place_of samples_of with_place signed_in bits16 is_due phase_back phases_of report_from answered_from figures_with worked_out measured judgement errors_of verdict_on is_mark version_in soc_in headed checksum after_byte divided figure_at device_in apart agrees reading sum weight offset phase_sum term weighted positive arctan scaled turned step steps no_phase phase_angle phase_of second_difference differences joined phase_at figures_at tagged
 refuses_everything = record {
-  clearing = λ n after p. omega (arith, answer_is p);
-  opening = λ n after p. omega (arith, answer_is p);
-  pushing = λ n after p. omega (arith, answer_is p);
-  closing = λ n after p. omega (arith, answer_is p);
-  salvaging = λ n slots after p. let e = ap (λ (o : Salvage). salvage_kind (salvage_said o.answer)) p in omega (arith, e);
-  feeding = λ n next p. let e = ap (λ (o : Next). kind_of o.answer) p in omega (arith, e);
-  judging = λ n p. let z : ◌≡◌ {A = ℕ} 0 1 = cc in omega arith;
-  reading = λ n p. let z : ◌≡◌ {A = ℕ} 0 1 = cc in omega arith;
-  measuring = λ n p. let e = ap run_kind p in omega (arith, e);
-  heading = λ n p. let z : ◌≡◌ {A = ℕ} 0 1 = cc in omega arith;
+  clearing = λ r after p. omega (arith, answer_is p);
+  opening = λ r after p. omega (arith, answer_is p);
+  pushing = λ r after p. omega (arith, answer_is p);
+  closing = λ r after p. omega (arith, answer_is p);
+  salvaging = λ r after p. let e = ap (λ (o : Salvage). salvage_kind o.answer) p in omega (arith, e);
+  feeding = λ r next p. let e = ap (λ (o : Next). kind_of o.answer) p in omega (arith, e);
+  judging = λ r p. cc;
+  reading = λ r p. cc;
+  measuring = λ r p. let e = ap run_kind p in omega (arith, e);
+  heading = λ r p. cc;
 }
 
 pub useless_models : UselessModels

@@ -7,6 +7,8 @@ use native.Mathlib.Omega.{arith}
 use lib.Dec.{eqb}
 use lib.ListN.{length, get_or-replicate}
 use borrow.Author.Tests.{eqb-true, eq-eqb, not-false}
+use Rattle.std.specs.Prelude.{Option, Result, Ok, Err}
+use Rattle.refusals.specs.declared.Refused.{Refused}
 use Rattle.bank.specs.Slot.{slot_at, TrueIn}
 use Rattle.bank.specs.declared.damage.Damage.{Damage}
 use Rattle.bank.specs.Damage.{is_damaged, damage_of}
@@ -14,7 +16,7 @@ use Rattle.bank.proofs.Lent.{pass}
 use Rattle.bank.proofs.Slots.{slot_length}
 use Rattle.salvage.specs.declared.MendedSlot.{MendedSlot}
 use Rattle.salvage.specs.Slots.{fate_by, left_by, mended_slot, differing, unaltered, told}
-use Rattle.salvage.specs.Image.{mended_image, told_of, refused, mended, ended, said, all_sound, Outcome, refusing, granted, salvaged}
+use Rattle.salvage.specs.Image.{mended_image, told_of, refused, mended, said, all_sound, Outcome, refusing, granted, salvaged, Mending}
 use Rattle.salvage.proofs.Fates.{is_stray, is_other}
 use Rattle.salvage.proofs.Counts.{differing_most}
 use Rattle.salvage.proofs.Slots.{left_by_lem, sound_stays, sound_told, mended_sound, mended_true}
@@ -33,14 +35,14 @@ slotwise : {image after : List ℕ} {slots : List MendedSlot} → Mends image sl
 unfolding salvaged
 slotwise {image} {after} {slots} m = go (not (eqb (length image) 4096)) refl m.promised
   where
-    go : (t : Bool) → not (eqb (length image) 4096) ≡ t → record { answer = m.answer; image = after } ≡ cond t (refusing image 1) (granted image)
+    go : (t : Bool) → not (eqb (length image) 4096) ≡ t → record { answer = said m.answer; image = after } ≡ cond t (refusing image 1) (granted image)
         → Slotwise image slots after
     go true p e =
-        absurd (let other : refused 1 ≡ mended slots = sym (ap (λ (o : Outcome). said o.answer) e) ∙ m.says in let z : ◌≡◌ {A = ℕ} 0 1 = cc in omega arith)
+        let other : refused 1 ≡ mended slots = sym (ap (λ (o : Outcome). o.answer) e) ∙ m.says in cc
     go false p e =
         let whole = eqb-true (length image) 4096 (not-false _ p) in
         let bytes : after ≡ mended_image image = ap (λ (o : Outcome). o.image) e in
-        let same : mended (told_of image) ≡ mended slots = sym (ap (λ (o : Outcome). said o.answer) e) ∙ m.says in
+        let same : mended (told_of image) ≡ mended slots = sym (ap (λ (o : Outcome). o.answer) e) ∙ m.says in
         let each : told_of image ≡ slots = cc in
         record {
           whole = whole;
@@ -50,14 +52,14 @@ slotwise {image} {after} {slots} m = go (not (eqb (length image) 4096)) refl m.p
         }
 
 -- what is left of a slot so damaged, and what is said to become of it
-damaged_so : {image after : List ℕ} {slots : List MendedSlot} {damage : Damage} → Mends image slots after → (k : ℕ) → k ≤ 15 → damage_of (slot_at image k) ≡ damage
+damaged_so : {image after : List ℕ} {slots : List MendedSlot} {damage : Option Damage} → Mends image slots after → (k : ℕ) → k ≤ 15 → damage_of (slot_at image k) ≡ damage
     → (slot_at after k ≡ left_by damage (slot_at image k))
     × ((said_at slots k).fate ≡ fate_by damage (not (eqb (differing (slot_at image k) (mended_slot (slot_at image k))) 0)))
 unfolding told
 damaged_so {image} m k h e =
     let w = slotwise m in
     let s = slot_at image k in
-    (w.leaves k h ∙ left_by_lem s e, ap (λ (t : MendedSlot). t.fate) (w.tells k h) ∙ ap (λ (d : Damage). fate_by d (not (eqb (differing s (mended_slot s)) 0))) e)
+    (w.leaves k h ∙ left_by_lem s e, ap (λ (t : MendedSlot). t.fate) (w.tells k h) ∙ ap (λ (d : Option Damage). fate_by d (not (eqb (differing s (mended_slot s)) 0))) e)
 
 none_damaged : OfEachSlot (λ before told after. is_damaged after ≡ false)
 none_damaged image slots after m k h =
@@ -80,12 +82,18 @@ module _ (image : List ℕ) (whole : length image ≡ 4096) (sound : (k : ℕ) �
       sym (is_each told image unaltered all_sound refl
       (λ k h. get_or-replicate 16 k _ _ (omega arith) ∙ sym (sound_told (slot_at image k) (slot_length image k whole h) (sound k h) (true_all k h))))
 
+-- an answer that says these slots is them
+answered : {image after : List ℕ} (r : Result (List MendedSlot) Refused) (slots : List MendedSlot) → Mending image r after → said r ≡ mended slots
+    → (told_slots : List MendedSlot) × (r ≡ Ok told_slots) × Mends image told_slots after
+answered (Ok told_slots) slots p e = (told_slots, refl, record { answer = Ok told_slots; promised = p; says = refl })
+answered (Err r) slots p e = cc
+
 pub salvage_holds : Salvage
 unfolding left_by told salvaged
 salvage_holds = record {
   whole_mended = λ image r after whole p.
       let e = p ∙ pass _ (granted image) (ap not (eq-eqb _ _ whole)) in
-      record { answer = r; promised = p; says = λ i. ended (e i).answer.ending r.slots };
+      answered r (told_of image) p (ap (λ (o : Outcome). o.answer) e);
   stray_trimmed = λ image slots after m k h e.
       let s = slot_at image k in
       let f = damaged_so m k h (is_stray s e) in
@@ -120,6 +128,6 @@ salvage_holds = record {
       let whole = (slotwise m).whole_after in
       let e = p ∙ pass _ (granted after) (ap not (eq-eqb _ _ whole)) in (
         ap (λ (o : Outcome). o.image) e ∙ stays_so after whole (none_damaged image slots after m) (all_true image slots after m),
-        ap (λ (o : Outcome). said o.answer) e ∙ ap mended (said_sound after whole (none_damaged image slots after m) (all_true image slots after m)),
+        ap (λ (o : Outcome). o.answer) e ∙ ap mended (said_sound after whole (none_damaged image slots after m) (all_true image slots after m)),
       );
 }

@@ -1,7 +1,7 @@
 -- Every public function's contract is the relation itself, and the relation admits one outcome. Assumes nothing.
-use mathlib.Core.Path.{◌≡◌, ap}
+use mathlib.Core.Path.{◌≡◌, sym, ap, ◌∙◌}
 use Rattle.bits.proofs.Unique.{be16_unique, be32_unique, signed16_unique, signed32_unique}
-use Rattle.sampling.proofs.Unique.{nominal_sampling_unique, served_nominal_unique, served_rate_unique, kept_rate_unique, nominal_of_unique}
+use Rattle.sampling.proofs.Unique.{nominal_sampling_unique, try_from_unique, served_nominal_unique, served_rate_unique, kept_rate_unique, nominal_of_unique}
 use Rattle.header.proofs.Unique.{read_header_unique}
 use Rattle.text.proofs.Unique.{put_unique, put_hex_unique}
 use Rattle.model.specs.Filter.{lent_samples}
@@ -23,6 +23,9 @@ both e = (ap (λ p. p.0) e, ap (λ p. p.1) e)
 
 pub tied : Tied
 tied = record {
+  refusals_refused_number_asks_nothing = λ κs a. tt;
+  refusals_refused_number_says = λ κs a r s p. p;
+  refusals_refused_number_unique = λ κs a r q s t p o. p ∙ sym o;
   bits_be16_asks_nothing = λ κs a. tt;
   bits_be16_says = λ κs a r s p. p;
   bits_be16_unique = λ κs a r q s t. be16_unique a.0 a.1.0 r q;
@@ -38,6 +41,9 @@ tied = record {
   sampling_nominal_sampling_asks_nothing = λ κs a. tt;
   sampling_nominal_sampling_says = λ κs a r s p. p;
   sampling_nominal_sampling_unique = λ κs a r q s t. nominal_sampling_unique a.0 r q;
+  sampling_nominal_try_from_asks_nothing = λ κs a. tt;
+  sampling_nominal_try_from_says = λ κs a r s p. p;
+  sampling_nominal_try_from_unique = λ κs a r q s t. try_from_unique a.0 r q;
   sampling_served_nominal_asks_nothing = λ κs a. tt;
   sampling_served_nominal_says = λ κs a r s p. p;
   sampling_served_nominal_unique = λ κs a r q s t. served_nominal_unique a.0 r q;

@@ -8,6 +8,7 @@ use native.Mathlib.Omega.{arith}
 use borrow.Author.Tests.{leb-true, le-leb, ltb-false, le-ltb}
 use lib.Dec.{T, leb, ltb, eqb}
 use lib.IntN.{ℤ, nat_abs}
+use Rattle.std.specs.Prelude.{Some, Ok}
 use Rattle.ints.proofs.Cases.{when_false}
 use Rattle.verdict.specs.Errors.{errors_of}
 use Rattle.verdict.specs.Limits.{limits_for}
@@ -16,7 +17,6 @@ use Rattle.verdict.specs.declared.errors.Device.{Device}
 use Rattle.verdict.specs.declared.errors.Reference.{Reference}
 use Rattle.verdict.specs.declared.limits.Limits.{Limits}
 use Rattle.verdict.specs.declared.judging.Verdict.{Verdict}
-use Rattle.verdict.specs.declared.judging.Judged.TheVariants.{Verdicts}
 use Rattle.verdict.proofs.Unique.{unsaid, unsaid_said}
 use Rattle.acceptance.specs.Within.{Within, Due, WithinLimits}
 
@@ -49,16 +49,16 @@ past true x y h e = absurd (h e)
 past false x y h e = (refl, e)
 
 not_refused : {t f r : Bool} {n : ℕ} → verdicts t f r ≡ refused n → ⊥
-not_refused e = let z : ◌≡◌ {A = ℕ} 0 1 = cc in omega arith
+not_refused e = cc
 
 not_left_out : {t f r : Bool} → verdicts t f r ≡ left_out → ⊥
-not_left_out e = let z : ◌≡◌ {A = ℕ} 0 1 = cc in omega arith
+not_left_out e = cc
 
 module _ (class test : ℕ) (m : ℤ) (d : Device) (q : Reference) where
   abbrev verdict : Said
   verdict = said_verdict (verdict_on (errors_of d q) (limits_for class test))
 
-  told_when : (v : Verdict) → Judging class test m d q (Verdicts v) → Due class test m q × (said_verdict v ≡ verdict)
+  told_when : (v : Verdict) → Judging class test m d q (Ok (Some v)) → Due class test m q × (said_verdict v ≡ verdict)
   unfolding judgement
   told_when v e =
       let after_10 = past (ltb 1 class) _ _ not_refused e in

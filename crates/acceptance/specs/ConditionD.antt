@@ -1,11 +1,12 @@
 -- Condition D: "Devices send their reports as C37.118.2 data frames; the bench is to read those." Document 02, CR 4, in its words.
 -- Each statement is over the relation that the contract of `read_frame` cites; its refusals and their order are condition A's.
-use Rattle.std.specs.Prelude.{◌≡◌, true, List, [], ◌∷◌, ◌++◌, ℕ, ◌+◌, ◌*◌, ◌^◌, ◌≤◌, ◌<◌, ℤ, pos, neg_ℤ, get_or, set}
+use Rattle.std.specs.Prelude.{◌≡◌, true, Option, Result, List, [], ◌∷◌, ◌++◌, ℕ, ◌+◌, ◌*◌, ◌^◌, ◌≤◌, ◌<◌, ℤ, pos, neg_ℤ, get_or, set}
+use Rattle.refusals.specs.declared.Refused.{Refused}
 use Rattle.bits.specs.Bits.{bytes16, bytes32, bits16}
 use Rattle.sampling.specs.Tags.{served_nominal, served_rate}
 use Rattle.verdict.specs.declared.errors.Device.{Device}
 use Rattle.verdict.specs.declared.errors.Reference.{Reference}
-use Rattle.verdict.specs.declared.judging.Judged.{Judged}
+use Rattle.verdict.specs.declared.judging.Verdict.{Verdict}
 use Rattle.verdict.specs.Judging.{Judging}
 use Rattle.frames.specs.declared.bench.Configured.{Configured}
 use Rattle.frames.specs.declared.bench.Tag.{Tag}
@@ -66,7 +67,7 @@ pub record Expected (s : Sent) (configured : Configured) (tag : Tag) : Type 0 wh
 
 -- a frame is accepted: the contract admits an answer that says figures and, aside, a time quality
 pub record Accepted (frame : List ℕ) (configured : Configured) (tag : Tag) : Type 0 where
-  pub answer : Frame
+  pub answer : Result Frame Refused
   pub promised : Reading frame configured tag answer
   pub device : Device
   pub quality : ℕ
@@ -108,13 +109,13 @@ pub record ConditionD : Type 0 where
   pub checksum_first : reading (set one_frame 5 8) one_bench one_tag ≡ refused 21
   -- "the bench is to read those": whatever a device sends to a bench that expects it is read, its figures as it sent them ..
   pub sent_read : (s : Sent) (configured : Configured) (tag : Tag) → Expected s configured tag
-      → (r : Frame) → Reading (frame_of s) configured tag r → said r ≡ figures (figures_of s) s.quality
+      → (r : Result Frame Refused) → Reading (frame_of s) configured tag r → said r ≡ figures (figures_of s) s.quality
   -- .. and nothing else is accepted
   pub read_sent : (frame : List ℕ) (configured : Configured) (tag : Tag) → Bytes frame → (read : Accepted frame configured tag)
       → FromDevice frame configured tag read.device read.quality
   -- "the frame's four figures go to the verdict as they are": judged, they meet the verdict of the same numbers typed in by hand
   pub typed_or_read : (frame : List ℕ) (configured : Configured) (tag : Tag) (read : Accepted frame configured tag)
-      → (typed : Device) → typed ≡ device_in frame → (class test : ℕ) (m : ℤ) (reference : Reference) (r q : Judged)
+      → (typed : Device) → typed ≡ device_in frame → (class test : ℕ) (m : ℤ) (reference : Reference) (r q : Result (Option Verdict) Refused)
       → Judging class test m read.device reference r → Judging class test m typed reference q → r ≡ q
   -- "TIME_BASE 1000, rate 10, frame 10, FRACSEC 1000, equal SOC: agrees"
   pub whole_second : (soc nominal id : ℕ)

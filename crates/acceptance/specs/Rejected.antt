@@ -1,9 +1,11 @@
 -- Document 01, "What each public call must say of itself" and "Slips to keep out": the four useless models and the five slips.
 -- For each a call, with its bytes, on which the contract does not admit what that model answers or leaves. A listing with invented counts is
 -- shut out by `each_listing` of condition B.
-use Rattle.std.specs.Prelude.{◌≡◌, cond, List, [], ◌∷◌, ◌++◌, ℕ, zero, suc, ◌-◌, ◌/◌, ◌^◌, ℤ, pos, negsuc, neg_ℤ, ◌+ℤ◌, ◌-ℤ◌, take, drop, set, replicate}
+use Rattle.std.specs.Prelude.{◌≡◌, cond, Option, Some, None, Result, Ok, Err, List, [], ◌∷◌, ◌++◌, ℕ, zero, suc, ◌-◌, ◌/◌, ◌^◌, ℤ, pos, negsuc, neg_ℤ, ◌+ℤ◌, ◌-ℤ◌, take, drop, set, replicate}
 use Rattle.std.specs.Int.Signed.{lt_z}
 use Rattle.ints.specs.Whole.{floor_div}
+use Rattle.refusals.specs.declared.Refused.{Refused}
+use Rattle.refusals.specs.declared.Refused.TheVariants.{Damaged}
 use Rattle.bits.specs.Bits.{signed32}
 use Rattle.sampling.specs.declared.Nominal.TheVariants.{Sixty}
 use Rattle.model.specs.declared.filter.Sample.{Sample}
@@ -13,26 +15,16 @@ use Rattle.model.specs.Filter.{positive, no_sample}
 use Rattle.model.specs.Angle.{gains, loses, arctan, scaled, turned}
 use Rattle.model.specs.Report.{difference, deviation_of}
 use Rattle.feed.specs.declared.Feed.{Feed}
-use Rattle.feed.specs.declared.Answer.{Answer}
-use Rattle.feed.specs.declared.Answer.TheVariants.{Refused, Taken, Reported}
 use Rattle.feed.specs.declared.Report.{Report}
 use Rattle.feed.specs.Places.{zeros}
 use Rattle.feed.specs.Kept.{zero_phases}
 use Rattle.feed.specs.Ring.{opened, worked_out, Pushing as FeedPushing}
-use Rattle.bank.specs.declared.Settled.TheVariants.{Refused as SettledRefused, Done}
 use Rattle.bank.specs.Slot.{slot_at, with_slot, slot_of}
 use Rattle.bank.specs.Calls.{Clearing, Opening, Pushing, Closing}
-use Rattle.salvage.specs.declared.MendedSlot.{MendedSlot}
-use Rattle.salvage.specs.declared.Ending.TheVariants.{Refused as EndingRefused}
 use Rattle.salvage.specs.Image.{Mending}
-use Rattle.runs.specs.declared.Measured.{Measured}
-use Rattle.runs.specs.declared.Measured.TheVariants.{Refused as MeasuredRefused, Given}
 use Rattle.runs.specs.Runs.{sample_at, RunMeasuring}
-use Rattle.verdict.specs.declared.judging.Judged.TheVariants.{Refused as JudgedRefused}
 use Rattle.verdict.specs.Judging.{Judging}
-use Rattle.header.specs.declared.Header.TheVariants.{Refused as HeaderRefused}
 use Rattle.header.specs.Header.{Heading}
-use Rattle.frames.specs.declared.Frame.TheVariants.{Refused as FrameRefused}
 use Rattle.frames.specs.Reading.{Reading as FrameReading}
 use Rattle.acceptance.specs.ConditionD.{one_frame, one_bench, one_tag}
 use Rattle.acceptance.specs.Figures.{device, reference}
@@ -79,37 +71,38 @@ two_peaks = set (set silence 3 (pos 962)) 27 (pos 813)
 
 -- ---- the four useless models
 
--- "one that refuses everything": on each of these calls no number at all is admitted
+-- "one that refuses everything": on each of these calls no refusal at all is admitted
 pub record RefusesEverything : Type 0 where
-  pub clearing : (n : ℕ) (after : List ℕ) → Clearing blank_bank (SettledRefused n) after → ⊥
-  pub opening : (n : ℕ) (after : List ℕ) → Opening blank_bank 0 60 60 1000 (SettledRefused n) after → ⊥
-  pub pushing : (n : ℕ) (after : List ℕ) → Pushing (held_bank 0 (samples_from 0 30)) 0 (wave 30) (Refused n) after → ⊥
-  pub closing : (n : ℕ) (after : List ℕ) → Closing (open_bank 0) 0 (SettledRefused n) after → ⊥
-  pub salvaging : (n : ℕ) (slots : List MendedSlot) (after : List ℕ) → Mending blank_bank (record { ending = EndingRefused n; slots = slots }) after → ⊥
-  pub feeding : (n : ℕ) (next : Feed) → FeedPushing (opened 60 60 1000) one_two_three (record { feed = next; answer = Refused n }) → ⊥
-  pub judging : (n : ℕ) → Judging 0 0 (pos 0) (device 10100 0) (reference 10000 0) (JudgedRefused n) → ⊥
-  pub reading : (n : ℕ) → FrameReading one_frame one_bench one_tag (FrameRefused n) → ⊥
-  pub measuring : (n : ℕ) → RunMeasuring two_peaks silence silence 15 60 (MeasuredRefused n) → ⊥
-  pub heading : (n : ℕ) → Heading (take 11 file) (HeaderRefused n) → ⊥
+  pub clearing : (r : Refused) (after : List ℕ) → Clearing blank_bank (Err r) after → ⊥
+  pub opening : (r : Refused) (after : List ℕ) → Opening blank_bank 0 60 60 1000 (Err r) after → ⊥
+  pub pushing : (r : Refused) (after : List ℕ) → Pushing (held_bank 0 (samples_from 0 30)) 0 (wave 30) (Err r) after → ⊥
+  pub closing : (r : Refused) (after : List ℕ) → Closing (open_bank 0) 0 (Err r) after → ⊥
+  pub salvaging : (r : Refused) (after : List ℕ) → Mending blank_bank (Err r) after → ⊥
+  pub feeding : (r : Refused) (next : Feed) → FeedPushing (opened 60 60 1000) one_two_three (record { feed = next; answer = Err r }) → ⊥
+  pub judging : (r : Refused) → Judging 0 0 (pos 0) (device 10100 0) (reference 10000 0) (Err r) → ⊥
+  pub reading : (r : Refused) → FrameReading one_frame one_bench one_tag (Err r) → ⊥
+  pub measuring : (r : Refused) → RunMeasuring two_peaks silence silence 15 60 (Err r) → ⊥
+  pub heading : (r : Refused) → Heading (take 11 file) (Err r) → ⊥
 
 pub record UselessModels : Type 0 where
   pub refuses_everything : RefusesEverything
   -- "one with a fixed report": whatever it is, one of these two pushes does not admit it, the wave's or the silence's
-  pub fixed_report : (r : Report) (after after' : List ℕ) → Pushing (held_bank 0 (samples_from 0 30)) 0 (wave 30) (Reported r) after
-      → Pushing (held_bank 0 (zeros 180)) 0 no_sample (Reported r) after' → ⊥
+  pub fixed_report : (r : Report) (after after' : List ℕ) → Pushing (held_bank 0 (samples_from 0 30)) 0 (wave 30) (Ok (Some r)) after
+      → Pushing (held_bank 0 (zeros 180)) 0 no_sample (Ok (Some r)) after' → ⊥
   -- "one whose push stores nothing": the bank stays as it is ..
-  pub stores_nothing : (r : Answer) → Pushing (open_bank 0) 0 one_two_three r (open_bank 0) → ⊥
+  pub stores_nothing : (r : Result (Option Report) Refused) → Pushing (open_bank 0) 0 one_two_three r (open_bank 0) → ⊥
   -- .. or the numbers of the slot move on, and the six bytes of the place stay zero
-  pub place_stays : (r : Answer) (after : List ℕ) → Pushing (open_bank 0) 0 one_two_three r after → take 6 (drop 11 after) ≡ zeros 6 → ⊥
+  pub place_stays : (r : Result (Option Report) Refused) (after : List ℕ) → Pushing (open_bank 0) 0 one_two_three r after
+      → take 6 (drop 11 after) ≡ zeros 6 → ⊥
   -- "one that serves slot 0 truly and only pretends for the other fifteen": an opening is done, a sample is taken, and the slot's bytes stay ..
-  pub opening_pretended : (after : List ℕ) → Opening blank_bank 15 60 60 1000 Done after → slot_at after 15 ≡ slot_at blank_bank 15 → ⊥
-  pub push_pretended : (r : Answer) (after : List ℕ) → Pushing (open_bank 15) 15 one_two_three r after
+  pub opening_pretended : (after : List ℕ) → Opening blank_bank 15 60 60 1000 (Ok tt) after → slot_at after 15 ≡ slot_at blank_bank 15 → ⊥
+  pub push_pretended : (r : Result (Option Report) Refused) (after : List ℕ) → Pushing (open_bank 15) 15 one_two_three r after
       → slot_at after 15 ≡ slot_at (open_bank 15) 15 → ⊥
   -- .. or the sample is stored, and the report that is due is not given ..
-  pub report_withheld : (after : List ℕ) → Pushing (held_bank 15 (samples_from 0 30)) 15 (wave 30) Taken after → ⊥
+  pub report_withheld : (after : List ℕ) → Pushing (held_bank 15 (samples_from 0 30)) 15 (wave 30) (Ok None) after → ⊥
   -- .. or slot 0's report, which is due there, is given to slot 15, which has taken no sample
   pub report_of_slot_0 : (r : Report) (after : List ℕ)
-      → Pushing (with_slot (held_bank 0 (samples_from 0 30)) 15 (slot_of (opened 60 60 1000))) 15 (wave 30) (Reported r) after → ⊥
+      → Pushing (with_slot (held_bank 0 (samples_from 0 30)) 15 (slot_of (opened 60 60 1000))) 15 (wave 30) (Ok (Some r)) after → ⊥
 
 -- ---- the five slips
 
@@ -149,20 +142,21 @@ angle_by over i =
 
 pub record Slips : Type 0 where
   -- "The three phases' angle steps summed with b and c exchanged": of a, b, c it answers what the rule answers of a, c, b
-  pub negative_sequence : (r : Measured) → RunMeasuring (wave_run (λ s. s.a) 0 31) (wave_run (λ s. s.b) 0 31) (wave_run (λ s. s.c) 0 31) 15 60 r
+  pub negative_sequence : (r : Result Figures Refused)
+      → RunMeasuring (wave_run (λ s. s.a) 0 31) (wave_run (λ s. s.b) 0 31) (wave_run (λ s. s.c) 0 31) 15 60 r
       → RunMeasuring (wave_run (λ s. s.a) 0 31) (wave_run (λ s. s.c) 0 31) (wave_run (λ s. s.b) 0 31) 15 60 r → ⊥
   -- "The angle difference not wrapped: it jumps by .. 450 Hz": the deviation is that of r - p as it stands
-  pub not_wrapped : (f : Figures) → RunMeasuring two_peaks silence silence 15 60 (Given f)
+  pub not_wrapped : (f : Figures) → RunMeasuring two_peaks silence silence 15 60 (Ok f)
       → f.deviation ≡ deviation_of Sixty (pos (angle_by floor_div 16).parts -ℤ pos (angle_by floor_div 14).parts) → ⊥
   -- "Tagging a report with the newest sample's time": the newest sample is index 30 of SOC 1000, which is frame 2
-  pub newest_time : (r : Report) (after : List ℕ) → Pushing (held_bank 0 (samples_from 0 30)) 0 (wave 30) (Reported r) after
+  pub newest_time : (r : Report) (after : List ℕ) → Pushing (held_bank 0 (samples_from 0 30)) 0 (wave 30) (Ok (Some r)) after
       → r.soc ≡ 1000 → r.frame ≡ 2 → ⊥
   -- "Truncating instead of floor in the angle steps": by the floor d1 is the rule's, and by truncation it is not
-  pub floored : (f : Figures) → RunMeasuring two_peaks silence silence 15 60 (Given f)
+  pub floored : (f : Figures) → RunMeasuring two_peaks silence silence 15 60 (Ok f)
       → f.d1 ≡ signed32 (difference (angle_by floor_div 14) (angle_by floor_div 16))
-  pub truncating : (f : Figures) → RunMeasuring two_peaks silence silence 15 60 (Given f)
+  pub truncating : (f : Figures) → RunMeasuring two_peaks silence silence 15 60 (Ok f)
       → f.d1 ≡ signed32 (difference (angle_by truncated 14) (angle_by truncated 16)) → ⊥
   -- "A damage test that scans the whole bank": slot 1 is damaged, its state being 2, and slot 0 is opened, pushed to and closed none the less
-  pub fault_elsewhere_opening : (after : List ℕ) → Opening (set blank_bank 256 2) 0 60 60 1000 (SettledRefused 3) after → ⊥
-  pub fault_elsewhere_pushing : (after : List ℕ) → Pushing (set (open_bank 0) 256 2) 0 one_two_three (Refused 3) after → ⊥
-  pub fault_elsewhere_closing : (after : List ℕ) → Closing (set (open_bank 0) 256 2) 0 (SettledRefused 3) after → ⊥
+  pub fault_elsewhere_opening : (after : List ℕ) → Opening (set blank_bank 256 2) 0 60 60 1000 (Err Damaged) after → ⊥
+  pub fault_elsewhere_pushing : (after : List ℕ) → Pushing (set (open_bank 0) 256 2) 0 one_two_three (Err Damaged) after → ⊥
+  pub fault_elsewhere_closing : (after : List ℕ) → Closing (set (open_bank 0) 256 2) 0 (Err Damaged) after → ⊥

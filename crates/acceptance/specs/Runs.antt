@@ -1,11 +1,11 @@
 -- Runs of opens, samples and closes on a bank, each call by the relation that its function's contract cites.
-use Rattle.std.specs.Prelude.{◌≡◌, cond, List, [], ◌∷◌, ℕ, eqb, ℤ}
+use Rattle.std.specs.Prelude.{◌≡◌, cond, Option, Result, List, [], ◌∷◌, ℕ, eqb, ℤ}
 use Rattle.std.specs.Int.{w16}
 use Rattle.std.proofs.Common.{SFits}
 use Rattle.model.specs.declared.filter.Sample.{Sample}
-use Rattle.feed.specs.declared.Answer.{Answer}
+use Rattle.refusals.specs.declared.Refused.{Refused}
+use Rattle.feed.specs.declared.Report.{Report}
 use Rattle.feed.specs.Answers.{Said, said}
-use Rattle.bank.specs.declared.Settled.{Settled}
 use Rattle.bank.specs.Calls.{settled, Opening, Pushing, Closing}
 
 -- a signed 16-bit number, from -32768 to 32767
@@ -31,9 +31,10 @@ sample_by a b c = record { a = a.number; b = b.number; c = c.number }
 
 -- the call's function may answer this of the bank before it, and leave the bank after it
 abbrev pub Promised : ℕ → Ask → List ℕ → Said → List ℕ → Type 0
-Promised slot (opens nominal rate soc) before answer after = (r : Settled) × Opening before slot nominal rate soc r after × (settled r ≡ answer)
-Promised slot (samples a b c) before answer after = (r : Answer) × Pushing before slot (sample_by a b c) r after × (said r ≡ answer)
-Promised slot closes before answer after = (r : Settled) × Closing before slot r after × (settled r ≡ answer)
+Promised slot (opens nominal rate soc) before answer after =
+    (r : Result (Unit {0}) Refused) × Opening before slot nominal rate soc r after × (settled r ≡ answer)
+Promised slot (samples a b c) before answer after = (r : Result (Option Report) Refused) × Pushing before slot (sample_by a b c) r after × (said r ≡ answer)
+Promised slot closes before answer after = (r : Result (Unit {0}) Refused) × Closing before slot r after × (settled r ≡ answer)
 
 -- a run from one bank to another: its calls in their order, each as its function promises
 pub data Ran : List ℕ → List Call → List ℕ → Type 0 where

@@ -1,5 +1,6 @@
 -- Document 02, CR 3 with CR 6, in their words: what is promised of an image that is mended. Of an image that is refused condition A says that it stays.
-use Rattle.std.specs.Prelude.{◌≡◌, true, false, List, ℕ, ◌-◌, ◌*◌, ◌≤◌, length, get_or, take, drop}
+use Rattle.std.specs.Prelude.{◌≡◌, true, false, Result, Ok, List, ℕ, ◌-◌, ◌*◌, ◌≤◌, length, get_or, take, drop}
+use Rattle.refusals.specs.declared.Refused.{Refused}
 use Rattle.feed.specs.Places.{zeros}
 use Rattle.feed.specs.Kept.{phases_of}
 use Rattle.feed.specs.Ring.{history_of}
@@ -7,13 +8,12 @@ use Rattle.bank.specs.Slot.{slot_at, head_in, places_in, kept_part, kept_bytes, 
 use Rattle.bank.specs.Damage.{is_damaged, only_stray}
 use Rattle.salvage.specs.declared.Fate.TheVariants.{Sound, Trimmed, Closed}
 use Rattle.salvage.specs.declared.MendedSlot.{MendedSlot}
-use Rattle.salvage.specs.declared.Salvaged.{Salvaged}
 use Rattle.salvage.specs.Slots.{differing, unaltered}
 use Rattle.salvage.specs.Image.{mended, said, all_sound, Mending}
 
 -- a call that mends: its contract admits this answer and these bytes, and of its slots it says these
 pub record Mends (image : List ℕ) (slots : List MendedSlot) (after : List ℕ) : Type 0 where
-  pub answer : Salvaged
+  pub answer : Result (List MendedSlot) Refused
   pub promised : Mending image answer after
   pub says : said answer ≡ mended slots
 
@@ -43,8 +43,8 @@ pub record WorkedOut (before after : List ℕ) : Type 0 where
 
 pub record Salvage : Type 0 where
   -- "mends a 4096-byte image"
-  pub whole_mended : (image : List ℕ) (r : Salvaged) (after : List ℕ) → length image ≡ 4096 → Mending image r after
-      → Mends image r.slots after
+  pub whole_mended : (image : List ℕ) (r : Result (List MendedSlot) Refused) (after : List ℕ) → length image ≡ 4096 → Mending image r after
+      → (slots : List MendedSlot) × (r ≡ Ok slots) × Mends image slots after
   -- "An open slot damaged only by nonzero bytes in unfilled places or after byte 211 has these set to zero"; one with a flag over 1 is trimmed too:
   -- the angles and flags are worked out
   pub stray_trimmed : OfEachSlot (λ before told after. only_stray before ≡ true → SetToZero before after × (told.fate ≡ Trimmed))
@@ -66,4 +66,4 @@ pub record Salvage : Type 0 where
   pub all_true : OfEachSlot (λ before told after. TrueIn after)
   -- "and mending it again changes nothing": and it then says sound, 0, sixteen times
   pub again : (image : List ℕ) (slots : List MendedSlot) (after : List ℕ) → Mends image slots after
-      → (r : Salvaged) (last : List ℕ) → Mending after r last → (last ≡ after) × (said r ≡ mended all_sound)
+      → (r : Result (List MendedSlot) Refused) (last : List ℕ) → Mending after r last → (last ≡ after) × (said r ≡ mended all_sound)

@@ -4,9 +4,10 @@
 -- and of the arguments when it ends, s. κs are the lifetimes; a.0, a.1.0, a.1.1.0 are the arguments in their order; `a.0.now` are
 -- lent bytes or numbers before the call, `s.0.now` when it ends.
 use Rattle.std.specs.Prelude.{◌≡◌, List, ℕ, ◌*◌, length}
+use Rattle.refusals.specs.Refusals.{number_of}
 use Rattle.bits.specs.Bits.{be16, be32, signed16, signed32}
 use Rattle.sampling.specs.Sampling.{sampling}
-use Rattle.sampling.specs.Tags.{served_nominal, served_rate, kept_rate, nominal_of}
+use Rattle.sampling.specs.Tags.{served_nominal, served_rate, kept_rate, nominal_of, Naming}
 use Rattle.header.specs.Header.{Heading}
 use Rattle.text.specs.Text.{hex_bytes}
 use Rattle.text.specs.Put.{Put, filled, room_for}
@@ -23,11 +24,13 @@ use Rattle.verdict.specs.Judging.{Judging}
 use Rattle.frames.specs.Reading.{Reading as FrameReading}
 use Rattle.phs.specs.Stream.{started, Reading, Finishing}
 use Rattle.reads.specs.Counts.{meaning}
+use Rattle.refusals.proofs.Refused.number.Reads as numberReads
 use Rattle.bits.proofs.be16.Reads as be16Reads
 use Rattle.bits.proofs.be32.Reads as be32Reads
 use Rattle.bits.proofs.signed16.Reads as signed16Reads
 use Rattle.bits.proofs.signed32.Reads as signed32Reads
 use Rattle.sampling.proofs.Nominal.sampling.Reads as samplingReads
+use Rattle.sampling.proofs.NominalTryFromU8.try_from.Reads as tryFromReads
 use Rattle.sampling.proofs.served_nominal.Reads as servedNominalReads
 use Rattle.sampling.proofs.served_rate.Reads as servedRateReads
 use Rattle.sampling.proofs.kept_rate.Reads as keptRateReads
@@ -73,6 +76,11 @@ abbrev pub OneOutcome : {A R S B : Type 0} → (A → R → S → Type 0) → (S
 OneOutcome post lent = (a : _) (r q : _) (s t : _) → post a r s → post a q t → (r ≡ q) × (lent s ≡ lent t)
 
 pub record Tied : Type 0 where
+  -- ---- refusals
+  -- `Refused::number`
+  pub refusals_refused_number_asks_nothing : (κs : _) → AsksNothing (numberReads.Pre κs)
+  pub refusals_refused_number_says : (κs : _) (a : _) (r : _) (s : _) → numberReads.Post κs a r s → r ≡ number_of a.0
+  pub refusals_refused_number_unique : (κs : _) → OneAnswer (numberReads.Post κs)
   -- ---- bits
   -- `be16`
   pub bits_be16_asks_nothing : (κs : _) → AsksNothing (be16Reads.Pre κs)
@@ -95,6 +103,10 @@ pub record Tied : Type 0 where
   pub sampling_nominal_sampling_asks_nothing : (κs : _) → AsksNothing (samplingReads.Pre κs)
   pub sampling_nominal_sampling_says : (κs : _) (a : _) (r : _) (s : _) → samplingReads.Post κs a r s → r ≡ sampling a.0
   pub sampling_nominal_sampling_unique : (κs : _) → OneAnswer (samplingReads.Post κs)
+  -- `Nominal::try_from`
+  pub sampling_nominal_try_from_asks_nothing : (κs : _) → AsksNothing (tryFromReads.Pre κs)
+  pub sampling_nominal_try_from_says : (κs : _) (a : _) (r : _) (s : _) → tryFromReads.Post κs a r s → Naming a.0 r
+  pub sampling_nominal_try_from_unique : (κs : _) → OneAnswer (tryFromReads.Post κs)
   -- `served_nominal`
   pub sampling_served_nominal_asks_nothing : (κs : _) → AsksNothing (servedNominalReads.Pre κs)
   pub sampling_served_nominal_says : (κs : _) (a : _) (r : _) (s : _) → servedNominalReads.Post κs a r s → r ≡ served_nominal a.0

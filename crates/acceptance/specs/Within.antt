@@ -1,5 +1,6 @@
 -- Condition B, second sentence of demand 2, of every answer that the contract of `judge` admits.
-use Rattle.std.specs.Prelude.{◌≡◌, true, false, ◌↔◌, ℕ, ◌*◌, ◌≤◌, ◌<◌, ℤ, pos, nat_abs, ◌-ℤ◌, ◌*ℤ◌}
+use Rattle.std.specs.Prelude.{◌≡◌, true, false, ◌↔◌, Option, Some, Result, Ok, ℕ, ◌*◌, ◌≤◌, ◌<◌, ℤ, pos, nat_abs, ◌-ℤ◌, ◌*ℤ◌}
+use Rattle.refusals.specs.declared.Refused.{Refused}
 use Rattle.verdict.specs.Errors.{squares}
 use Rattle.verdict.specs.Limits.{limits_for}
 use Rattle.verdict.specs.Judging.{no_reference, is_left_out, Judging}
@@ -7,8 +8,6 @@ use Rattle.verdict.specs.declared.errors.Device.{Device}
 use Rattle.verdict.specs.declared.errors.Reference.{Reference}
 use Rattle.verdict.specs.declared.limits.Limits.{Limits}
 use Rattle.verdict.specs.declared.judging.Verdict.{Verdict}
-use Rattle.verdict.specs.declared.judging.Judged.{Judged}
-use Rattle.verdict.specs.declared.judging.Judged.TheVariants.{Verdicts}
 
 -- a fraction: top / bottom
 pub record Fraction : Type 0 where
@@ -49,10 +48,10 @@ pub record Due (class test : ℕ) (m : ℤ) (q : Reference) : Type 0 where
 -- the sentence, in its two parts
 pub record WithinLimits : Type 0 where
   -- "Where a verdict is due ..": there the answer is three verdicts, and nowhere else
-  pub due : (class test : ℕ) (m : ℤ) (d : Device) (q : Reference) (r : Judged)
+  pub due : (class test : ℕ) (m : ℤ) (d : Device) (q : Reference) (r : Result (Option Verdict) Refused)
       → Judging class test m d q r
-      → Due class test m q ↔ ((v : Verdict) × (r ≡ Verdicts v))
+      → Due class test m q ↔ ((v : Verdict) × (r ≡ Ok (Some v)))
   -- ".. a device is within TVE, FE or RFE exactly when its error doesn't exceed the limit for its class and test"
   pub exactly : (class test : ℕ) (m : ℤ) (d : Device) (q : Reference) (v : Verdict)
-      → Judging class test m d q (Verdicts v)
+      → Judging class test m d q (Ok (Some v))
       → Within (limits_for class test) d q v
