@@ -1,4 +1,4 @@
 -- The laws of `lister`.
 pub mod Given
-pub mod Counted
+pub mod Told
 pub mod Says

@@ -1,49 +1,29 @@
 // The listing of the PHS file that a reader gives, written to a writer, through lent buffers.
 #![tactic(auto)]
 
-ghost use Rattle.std.specs.Prelude.{◌≡◌, false, ◌≤◌, length};
+ghost use Rattle.std.specs.Prelude.{◌≡◌, ◌≤◌, ◌↔◌, IsTrue, length};
 ghost use Rattle.phs.specs.Lines.{line_room};
-ghost use Rattle.reads.specs.Counts.{meaning};
-ghost use Rattle.lister.specs.Listing.{is_no_room, Lists};
-ghost use Rattle.lister.specs.Inside.{Moved, state_after, Gives, Comes};
+ghost use Rattle.lister.specs.Listing.{Lists, Tells};
+ghost use Rattle.lister.specs.Inside.{Comes, Gives, Ends};
 
 use phs::{Reader, Stage};
-use reads::Brought;
+use std::io;
 use std::io::{Read, Write};
 
 // The room that any line has enough of.
 const LINE: usize = 256;
 
-// How a listing ends.
-#[derive(Clone, Copy)]
-pub enum Ending {
-    // it is written to its last line, a refusal's among them
-    Listed,
-    // a read has failed: the text has no last line
-    Unread,
+// Why a listing has no last line.
+#[derive(Clone, Copy, Debug)]
+pub enum Unlisted {
+    // a read has failed
+    Unread(io::Error),
     // a write has failed: the text is cut short
-    Unwritten,
+    Unwritten(io::Error),
     // nothing is read: the buffers have no room for a byte of input, or none for a line of text
     NoRoom,
     // the input goes on after more reads than a run can make
     Endless,
-}
-
-// Whether the listing goes on.
-#[derive(Clone, Copy)]
-enum State {
-    Going,
-    // the input has ended, or a refusal is said
-    Ended,
-    Unread,
-    Unwritten,
-}
-
-// What one read leaves.
-#[derive(Clone, Copy)]
-struct Turn {
-    reader: Reader,
-    state: State,
 }
 
 // Reads the file from the reader, a part at a time to its end or to its refusal, and writes the listing to the writer. A whole header clears
@@ -54,142 +34,69 @@ pub fn list<R: Read, W: Write>(
     out: &mut [u8],
     from: &mut R,
     to: &mut W,
-) -> Ending
-    ensures { Lists bank.old input.old out.old result bank.new input.new out.new }
+) -> Result<(), Unlisted>
+    ensures lists { Lists bank.old input.old out.old from.old to.old result bank.new input.new out.new from.new to.new }
+    ensures tells { Tells bank.old (R.remaining from.old) (W.contents to.old) result
+        bank.new (R.remaining from.new) (W.contents to.new) }
 {
-    if (input.len() == 0) | (out.len() < LINE) {
-        return Ending::NoRoom;
+    if input.is_empty() | (out.len() < LINE) {
+        return Err(Unlisted::NoRoom);
     }
-    list_all(bank, input, out, from, to)
-}
-
-// The whole input, a read at a time, or as far as a refusal.
-fn list_all<R: Read, W: Write>(
-    bank: &mut [u8],
-    input: &mut [u8],
-    out: &mut [u8],
-    from: &mut R,
-    to: &mut W,
-) -> Ending
-    requires { line_room ≤ length out.old }
-    ensures { is_no_room result ≡ false }
-{
     let mut reader = phs::start();
     // A loop has to end: these are more reads than a run can make.
     for _ in 0..u64::MAX {
-        let t = read_some(reader, bank, input, out, from, to);
-        reader = t.reader;
-        let state = t.state;
-        match state {
-            State::Going => {}
-            State::Ended => {
-                return finish(reader, out, to);
-            }
-            State::Unread => {
-                return Ending::Unread;
-            }
-            State::Unwritten => {
-                return Ending::Unwritten;
-            }
+        let Some(n) = read(from, input)? else {
+            return finish(reader, out, to);
+        };
+        reader = give(reader, bank, &input[..n], out, to).map_err(Unlisted::Unwritten)?;
+        if is_over(reader) {
+            return finish(reader, out, to);
         }
     }
-    Ending::Endless
+    Err(Unlisted::Endless)
 }
 
-// One read of the input, and the text of what it brings.
-fn read_some<R: Read, W: Write>(
-    r: Reader,
-    bank: &mut [u8],
-    input: &mut [u8],
-    out: &mut [u8],
-    from: &mut R,
-    to: &mut W,
-) -> Turn
-    requires { line_room ≤ length out.old }
+// One read of the input: how many bytes it brings, and at the end none.
+fn read<R: Read>(from: &mut R, input: &mut [u8]) -> Result<Option<usize>, Unlisted>
+    ensures { Comes (R.remaining from.old) (R.remaining from.new) input.new result }
 {
-    let got = read(from, input);
-    take(r, bank, input, got, out, to)
-}
-
-// The count of one read: -1 where it fails.
-fn read<R: Read>(from: &mut R, input: &mut [u8]) -> isize
-    ensures { Moved (length input.new) result }
-{
-    match from.read(input) {
-        Ok(n) => n as isize,
-        Err(_) => -1,
-    }
-}
-
-// What a read brought, by the count that it answered.
-fn take<W: Write>(
-    r: Reader,
-    bank: &mut [u8],
-    input: &[u8],
-    got: isize,
-    out: &mut [u8],
-    to: &mut W,
-) -> Turn
-    requires { (line_room ≤ length out.old) × Moved (length input.now) got }
-    ensures { Comes r bank.old input.now result bank.new (meaning got) }
-{
-    let brought = reads::meaning(got);
-    match brought {
-        Brought::Failed => Turn {
-            reader: r,
-            state: State::Unread,
-        },
-        Brought::End => Turn {
-            reader: r,
-            state: State::Ended,
-        },
-        Brought::Bytes(n) => give(r, bank, &input[..n], out, to),
-    }
+    reads::meaning(from.read(input)).map_err(Unlisted::Unread)
 }
 
 // All of the part. What follows a refusal in it is passed over.
-fn give<W: Write>(r: Reader, bank: &mut [u8], part: &[u8], out: &mut [u8], to: &mut W) -> Turn
+fn give<W: Write>(
+    r: Reader,
+    bank: &mut [u8],
+    part: &[u8],
+    out: &mut [u8],
+    to: &mut W,
+) -> io::Result<Reader>
     requires { line_room ≤ length out.old }
-    ensures { Gives r bank.old part.now result bank.new }
+    ensures { Gives r bank.old part.now (W.contents to.old) (W.contents to.new) result bank.new }
 {
     let mut reader = r;
     let mut i = 0;
     while i < part.len() {
         let m = phs::read_part(reader, bank, &part[i..], out);
+        to.write_all(&out[..m.written])?;
         reader = m.reader;
-        let written = m.written;
-        if to.write_all(&out[..written]).is_err() {
-            return Turn {
-                reader,
-                state: State::Unwritten,
-            };
-        }
         i += m.read;
     }
-    let state = state_of(reader);
-    Turn { reader, state }
+    Ok(reader)
 }
 
 // After a refusal no more is read.
-fn state_of(r: Reader) -> State
-    ensures { result ≡ state_after r.stage }
+fn is_over(r: Reader) -> bool
+    ensures { IsTrue result ↔ r.stage ≡ Stage.Over }
 {
-    let stage = r.stage;
-    match stage {
-        Stage::InHeader => State::Going,
-        Stage::InSamples => State::Going,
-        Stage::Over => State::Ended,
-    }
+    matches!(r.stage, Stage::Over)
 }
 
 // The last line.
-fn finish<W: Write>(r: Reader, out: &mut [u8], to: &mut W) -> Ending
-    ensures { is_no_room result ≡ false }
+fn finish<W: Write>(r: Reader, out: &mut [u8], to: &mut W) -> Result<(), Unlisted>
+    ensures { Ends r out.old (W.contents to.old) (W.contents to.new) result }
 {
     let n = phs::finish(r, out);
-    if to.write_all(&out[..n]).is_ok() {
-        Ending::Listed
-    } else {
-        Ending::Unwritten
-    }
+    to.write_all(&out[..n]).map_err(Unlisted::Unwritten)?;
+    Ok(())
 }

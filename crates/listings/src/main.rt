@@ -2,7 +2,7 @@
 // short files and long ones.
 #![tactic(auto)]
 
-use lister::Ending;
+use lister::Unlisted;
 use std::fs::File;
 use std::io;
 use std::io::{ErrorKind, Read, Write};
@@ -39,59 +39,39 @@ impl Write for Nowhere {
 
 // The program.
 fn main(rt: HostRuntime) {
-    list_refused(&rt);
-    list_other_versions(&rt);
-    list_sound(&rt);
-    list_rate_0(&rt);
-    list_without_phase(&rt);
-    list_rest(&rt);
+    for name in [
+        // refused headers: 14, 14, 12, 6, 7
+        "empty.phs",
+        "header_cut.phs",
+        "mark_wrong.phs",
+        "nominal_wrong.phs",
+        "rate_wrong.phs",
+        // refused 13: numbers beside 1 and 2, and numbers with 1 or 2 as one of their bytes
+        "version_0.phs",
+        "version_3.phs",
+        "version_256.phs",
+        "version_258.phs",
+        // sound files
+        "header_only.phs",
+        "fifty.phs",
+        "sixty.phs",
+        // rate 0 at both nominals, in version 1, where it means 10, and in version 2, where it means a report every cycle
+        "fifty_rate_0_version_1.phs",
+        "sixty_rate_0_version_1.phs",
+        "fifty_rate_0_version_2.phs",
+        "sixty_rate_0_version_2.phs",
+        // noise of a count and of two, and reports whose parts are at and below four peak counts
+        "dead.phs",
+        "edge_of_phase.phs",
+        // refused 15, and 8 with much after it; then files of several reads, the last of them refused 15
+        "sample_cut.phs",
+        "last_second.phs",
+        "long.phs",
+        "long_cut.phs",
+    ] {
+        list_thrice(&rt, name);
+    }
     end_otherwise(&rt);
-}
-
-// Refused headers: 14, 14, 12, 6, 7.
-fn list_refused(rt: &HostRuntime) {
-    list_thrice(rt, "empty.phs");
-    list_thrice(rt, "header_cut.phs");
-    list_thrice(rt, "mark_wrong.phs");
-    list_thrice(rt, "nominal_wrong.phs");
-    list_thrice(rt, "rate_wrong.phs");
-}
-
-// Refused 13: numbers beside 1 and 2, and numbers with 1 or 2 as one of their bytes.
-fn list_other_versions(rt: &HostRuntime) {
-    list_thrice(rt, "version_0.phs");
-    list_thrice(rt, "version_3.phs");
-    list_thrice(rt, "version_256.phs");
-    list_thrice(rt, "version_258.phs");
-}
-
-// Sound files.
-fn list_sound(rt: &HostRuntime) {
-    list_thrice(rt, "header_only.phs");
-    list_thrice(rt, "fifty.phs");
-    list_thrice(rt, "sixty.phs");
-}
-
-// Rate 0 at both nominals, in version 1, where it means 10, and in version 2, where it means a report every cycle.
-fn list_rate_0(rt: &HostRuntime) {
-    list_thrice(rt, "fifty_rate_0_version_1.phs");
-    list_thrice(rt, "sixty_rate_0_version_1.phs");
-    list_thrice(rt, "fifty_rate_0_version_2.phs");
-    list_thrice(rt, "sixty_rate_0_version_2.phs");
-}
-
-// Noise of a count and of two, and reports whose parts are at and below four peak counts.
-fn list_without_phase(rt: &HostRuntime) {
-    list_thrice(rt, "dead.phs");
-    list_thrice(rt, "edge_of_phase.phs");
-}
-
-// Refused 15, and 8 with much after it; then files of several reads, the last of them refused 15.
-fn list_rest(rt: &HostRuntime) {
-    list_thrice(rt, "sample_cut.phs");
-    list_thrice(rt, "last_second.phs");
-    list_thrice(rt, "long.phs");
-    list_thrice(rt, "long_cut.phs");
 }
 
 // Endings without a listing: no file to read, no place to write a refusal or the last line to, no room in either buffer.
@@ -154,13 +134,13 @@ fn list_file<W: Write>(
 }
 
 // An ending that has no last line, by its word.
-fn say(rt: &HostRuntime, ending: Ending) {
-    match ending {
-        Ending::Listed => {}
-        Ending::Unread => print(rt, "unread"),
-        Ending::Unwritten => print(rt, "unwritten"),
-        Ending::NoRoom => print(rt, "no room"),
-        Ending::Endless => print(rt, "endless"),
+fn say(rt: &HostRuntime, listed: Result<(), Unlisted>) {
+    match listed {
+        Ok(()) => {}
+        Err(Unlisted::Unread(_)) => print(rt, "unread"),
+        Err(Unlisted::Unwritten(_)) => print(rt, "unwritten"),
+        Err(Unlisted::NoRoom) => print(rt, "no room"),
+        Err(Unlisted::Endless) => print(rt, "endless"),
     }
 }
 

@@ -7,9 +7,3 @@ pub at_least_one : {E : Type 0} (got : Result ℕ E) (n : ℕ) → meaning got �
 at_least_one (Err e) n p = cc
 at_least_one (Ok zero) n p = cc
 at_least_one (Ok (suc k)) n p = let same : suc k ≡ n = cc in omega arith
-
--- and so many as it answered
-pub brings : {E : Type 0} (got : Result ℕ E) (n : ℕ) → meaning got ≡ Ok (Some n) → got ≡ Ok n
-brings (Err e) n p = cc
-brings (Ok zero) n p = cc
-brings (Ok (suc k)) n p = cc

@@ -1,2 +1,0 @@
--- What `list` asks of this program: nothing.
-pub mod Asks
