@@ -8,13 +8,14 @@ use native.Mathlib.Omega.{arith}
 use lib.Dec.{leb}
 use lib.ListN.{length, get_or}
 use lib.Seq.{get_or-drop}
-use borrow.Author.Tests.{leb-true, leb-false, le-leb, lt-leb}
+use borrow.Author.Tests.{leb-true}
 use Rattle.model.specs.declared.angle.Phase.{Phase}
 use Rattle.model.specs.declared.filter.Sample.{Sample}
 use Rattle.model.specs.declared.report.Phases.{Phases}
 use Rattle.model.specs.Filter.{windowed, no_sample}
 use Rattle.model.specs.Report.{phase_at, three_phase}
 use Rattle.model.proofs.Same.{phase_same}
+use Rattle.std.proofs.lemmas.Bool.Decides.{nat_tests}
 use Rattle.feed.specs.declared.Feed.{Feed}
 use Rattle.feed.specs.declared.Head.{Head}
 use Rattle.feed.specs.Kept.{zero_phase, newest_centre, phase_back, phases_of}
@@ -93,8 +94,7 @@ unfolding phase_over
 newest_so h n window x e = rw e (ap (λ (t : Bool). cond t (phase_at three_phase (windowed window h.index) (h.index + 30 - 14)) zero_phase) (go (leb 28 h.held) refl))
   where
     go : (t : Bool) → leb 28 h.held ≡ t → t ≡ leb 29 (next_head h).held
-    go true t = sym (le-leb 29 (next_head h).held (omega (arith, held_after h n, leb-true 28 h.held t)))
-    go false t = sym (lt-leb 29 (next_head h).held (omega (arith, held_after h n, leb-false 28 h.held t)))
+    go t e = let k = held_after h n in grind (arith, nat_tests)
 
 -- a feed with faulty numbers stays, and one without has the phases of what it holds
 pub stays_faulty : (f : Feed) → faulty f.head ≡ true → f ≡ worked_out f

@@ -12,7 +12,6 @@ pub mod Samples
 pub mod Numbers
 pub mod Sound
 pub mod Standing
-pub mod Stores
 pub mod Rounds
 pub mod Due
 pub mod Centres

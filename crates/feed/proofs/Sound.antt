@@ -1,16 +1,17 @@
 -- What a head that is not faulty keeps to: each test of the definition, turned into its fact. Assumes nothing.
 use mathlib.Core.Path.{◌≡◌, refl, sym}
-use mathlib.Core.Bool.{Bool, true, false, not, ◌&&◌, ◌||◌}
+use mathlib.Core.Bool.{Bool, true, false, ◌&&◌, ◌||◌}
 use mathlib.Core.List.{List, [], ◌∷◌}
-use Prim.Native.Nat.{ℕ, ◌+◌, ◌*◌, ◌<◌, ◌≤◌}
+use Prim.Native.Nat.{ℕ, ◌*◌, ◌<◌, ◌≤◌}
 use native.Mathlib.Omega.{arith}
 use lib.Dec.{T, leb, eqb, lit≤, leb→le, eqb→eq}
 use mir.Facts.{and_yes}
-use borrow.Author.Tests.{eqb-true, eq-eqb, lt-ltb, ltb-true, ltb-false, not-false}
+use borrow.Author.Tests.{eqb-true}
+use Rattle.std.proofs.lemmas.Bool.Decides.{nat_tests}
 use Rattle.feed.specs.declared.Head.{Head}
-use Rattle.sampling.specs.Tags.{served_nominal, served_rate, rates, among, spacing}
+use Rattle.sampling.specs.Tags.{served_rate, rates, among, spacing}
 use Rattle.sampling.specs.Sampling.{sampling_of}
-use Rattle.feed.specs.Ring.{unserved, uneven, early, faulty, end_of_time_of}
+use Rattle.feed.specs.Ring.{unserved, uneven, early, faulty}
 
 clash : true ≡ false → ⊥
 clash e = let z : ◌≡◌ {A = ℕ} 0 1 = cc in omega arith
@@ -76,34 +77,14 @@ pub record Sound (h : Head) : Type 0 where
   pub even_index : h.held < 31 → h.index ≡ h.held
   pub late : h.held ≡ 31 → h.soc ≡ 0 → 31 ≤ h.index
 
-is_even : (h : Head) → uneven h ≡ false → h.held < 31 → (h.place ≡ h.held) × (h.index ≡ h.held)
-unfolding uneven
-is_even h e l =
-    let n = neither (not (eqb h.place h.held)) (not (eqb h.index h.held)) (rw (lt-ltb h.held 31 l) at e) in
-    (eqb-true _ _ (not-false _ n.0), eqb-true _ _ (not-false _ n.1))
-
-is_late : (h : Head) → early h ≡ false → h.held ≡ 31 → h.soc ≡ 0 → 31 ≤ h.index
-unfolding early
-is_late h e l s = ltb-false h.index 31 (rw (eq-eqb h.held 31 l, eq-eqb h.soc 0 s) at e)
-
 pub sound : (h : Head) → faulty h ≡ false → Sound h
-unfolding faulty unserved
-sound h e =
-    let e5 = neither _ _ e in
-    let e4 = neither _ _ e5.0 in
-    let e3 = neither _ _ e4.0 in
-    let e2 = neither _ _ e3.0 in
-    let e1 = neither _ _ e2.0 in
-    record {
-      rated = served h.nominal h.rate (not-false _ (neither (not (served_nominal h.nominal)) (not (served_rate h.nominal h.rate)) e1.0).1);
-      index = ltb-true _ _ (not-false _ e1.1);
-      held = ltb-false 31 h.held e2.1;
-      place = ltb-false 30 h.place e3.1;
-      even_place = λ l. (is_even h e4.1 l).0;
-      even_index = λ l. (is_even h e4.1 l).1;
-      late = is_late h e5.1;
-    }
-
--- a second that ends before the end of time is not the last
-pub not_last : (h : Head) → (end_of_time_of h).due ≡ false → h.index + 1 ≡ sampling_of h.nominal → h.soc ≡ 4294967295 → ⊥
-not_last h e l s = clash (rw (eq-eqb h.soc 4294967295 s, eq-eqb (h.index + 1) (sampling_of h.nominal) l) at e)
+unfolding faulty unserved uneven early
+sound h e = record {
+  rated = served h.nominal h.rate (grind (arith, nat_tests));
+  index = grind (arith, nat_tests);
+  held = grind (arith, nat_tests);
+  place = grind (arith, nat_tests);
+  even_place = λ l. grind (arith, nat_tests);
+  even_index = λ l. grind (arith, nat_tests);
+  late = λ l s. grind (arith, nat_tests);
+}

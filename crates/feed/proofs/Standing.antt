@@ -5,8 +5,8 @@ use mathlib.Core.Bool.{Bool, true, false}
 use Prim.Native.Nat.{ℕ, zero, suc, ◌+◌, ◌-◌, ◌*◌, ◌/◌, ◌%◌, ◌<◌, ◌≤◌}
 use native.Mathlib.Omega.{arith}
 use native.Mathlib.Nat.{div-lt_iff_lt-mul, mod-eq-zero_of_dvd, dvd_of_mod-eq-zero, mul-dvd-mul_right, dvd_of_mul-dvd-mul_right}
-use lib.Dec.{ltb, eqb}
-use borrow.Author.Tests.{ltb-true, ltb-false, eqb-true, eqb-false, eq-eqb, ne_eqb}
+use lib.Dec.{eqb}
+use borrow.Author.Tests.{eqb-true, eqb-false, eq-eqb, ne_eqb}
 use lib.Arith.{digits_div, digits_mod}
 use Rattle.feed.specs.declared.Head.{Head}
 use Rattle.feed.specs.declared.Centre.{Centre}
@@ -23,13 +23,7 @@ stands nominal soc index n h e = rw (e, digits_div soc h, digits_mod soc h)
 
 -- in the first second, as many samples came before the next one as are held
 begun : (h : Head) → Sound h → h.soc ≡ 0 → h.held ≤ h.index
-begun h s e = go (ltb h.held 31) refl
-  where
-    go : (b : Bool) → ltb h.held 31 ≡ b → h.held ≤ h.index
-    go true t = omega (arith, s.even_index (ltb-true h.held 31 t))
-    go false t =
-        let f : h.held ≡ 31 = omega (arith, s.held, ltb-false h.held 31 t) in
-        omega (arith, s.late f e)
+begun h s e = grind (arith, s.held, s.even_index, s.late)
 
 -- as many samples came before the next one as are held
 pub started : (h : Head) → Sound h → h.held ≤ next_number_of h
@@ -42,11 +36,7 @@ started h s = go h.soc refl
 module _ (h : Head) (s : Sound h) (full : 30 ≤ h.held) where
   -- the second is not the first, where the centre falls in the one before
   pub later : h.index < 15 → 1 ≤ h.soc
-  later l = go h.soc refl
-    where
-      go : (soc : ℕ) → h.soc ≡ soc → 1 ≤ soc
-      go zero e = absurd (omega (arith, begun h s e))
-      go (suc soc) e = omega arith
+  later l = let b = begun h s in grind (arith, b)
 
   pub same_second : 15 ≤ h.index → ◌≡◌ {A = Centre} (record { soc = h.soc; index = h.index - 15 }) (centre_at h)
   same_second l = sym (stands h.nominal h.soc (h.index - 15) (centre_number h) (omega (arith, s.index)) (omega arith))

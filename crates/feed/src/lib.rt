@@ -3,17 +3,19 @@
 
 mod places;
 
-ghost use Rattle.std.specs.Prelude.{◌≡◌, false, cond, ◌%◌, ◌≤◌, eqb};
+ghost use Rattle.std.specs.Prelude.{◌≡◌, true, false, cond, ◌%◌, ◌≤◌, eqb, MatchResult};
+ghost use Rattle.std.specs.Bool.{then_some};
 ghost use Rattle.model.specs.Filter.{lent_samples};
 ghost use Rattle.sampling.specs.Tags.{spacing};
 ghost use Rattle.sampling.specs.Sampling.{sampling_of};
-ghost use Rattle.feed.specs.Answers.{said_report};
+ghost use Rattle.feed.specs.Answers.{taken, said};
 ghost use Rattle.feed.specs.Kept.{zero_phase, moved_on};
-ghost use Rattle.feed.specs.Ring.{unserved, uneven, early, faulty, opened, end_of_time_of, next_head, worked_out, Pushing};
+ghost use Rattle.feed.specs.Ring.{unserved, uneven, early, faulty, opened, end_of_time_of, next_head, pushed, worked_out, Pushing};
+ghost use Rattle.refusals.specs.declared.Refused.TheVariants.{Damaged, EndOfTime};
 ghost use Rattle.feed.specs.Inside.{centre_at, due_with, report_with, newest_with, phases_with};
 
 use model::{Angle, Phase, Phases, Sample, measure_kept, newest_phase, phases_of};
-use places::{more_held, next_place, put_sample, window_from, window_with};
+use places::Place;
 pub use places::{place_of, sample_of};
 use refusals::Refused;
 use sampling::{kept_rate, nominal_of, served_nominal, served_rate};
@@ -90,9 +92,11 @@ fn phase_if(enough: bool, phase: Phase) -> Phase
 fn moved_on(kept: Phases, newest: Phase) -> Phases
     ensures { result ≡ moved_on kept newest }
 {
-    let p = kept.q;
-    let q = kept.r;
-    Phases { p, q, r: newest }
+    Phases {
+        p: kept.q,
+        q: kept.r,
+        r: newest,
+    }
 }
 
 // Where a report's centre stands: its SOC, and its index in the second.
@@ -107,10 +111,11 @@ impl Head {
     fn sampling(self) -> u16
         ensures { result ≡ sampling_of self.nominal }
     {
-        15 * self.nominal as u16
+        15 * u16::from(self.nominal)
     }
 
     // An unserved nominal or rate (a kept 0 included).
+    #[tactic(auto, unfolding(crate::specs::Ring::unserved))]
     fn is_unserved(self) -> bool
         ensures { result ≡ unserved self }
     {
@@ -118,13 +123,15 @@ impl Head {
     }
 
     // Fewer than 31 held where place or index differs from held.
+    #[tactic(auto, unfolding(crate::specs::Ring::uneven))]
     fn is_uneven(self) -> bool
         ensures { result ≡ uneven self }
     {
-        (self.held < 31) & ((self.place != self.held) | (self.index != self.held as u16))
+        (self.held < 31) & ((self.place != self.held) | (self.index != u16::from(self.held)))
     }
 
     // 31 held with SOC 0 and index under 31.
+    #[tactic(auto, unfolding(crate::specs::Ring::early))]
     fn is_early(self) -> bool
         ensures { result ≡ early self }
     {
@@ -132,6 +139,7 @@ impl Head {
     }
 
     // Whether the numbers are faulty: the damage of a slot that its numbers show.
+    #[tactic(auto, unfolding(crate::specs::Ring::faulty))]
     pub fn is_faulty(self) -> bool
         ensures { result ≡ faulty self }
     {
@@ -143,58 +151,71 @@ impl Head {
             | self.is_early()
     }
 
-    // SOC 4294967295 and the next sample is the last index of the second.
-    fn is_end_of_time(self) -> bool
-        requires { faulty self ≡ false }
-        ensures { result ≡ (end_of_time_of self).due }
+    // The head with its numbers in order, or refused 3.
+    fn sound(self) -> Result<SoundHead, Refused>
+        ensures { MatchResult result (λ h. h.head ≡ self) (λ r. (r ≡ Damaged) × (faulty self ≡ true)) }
     {
-        (self.soc == 4294967295) & (self.index + 1 == self.sampling())
+        if self.is_faulty() {
+            Err(Refused::Damaged)
+        } else {
+            Ok(SoundHead { head: self })
+        }
+    }
+}
+
+// A head whose numbers are in order: `Head::sound` makes it.
+#[derive(Clone, Copy)]
+struct SoundHead {
+    head: Head,
+    ghost in_order: { faulty head ≡ false },
+}
+
+impl SoundHead {
+    // The next place.
+    fn place(self) -> Place
+        ensures { result.number ≡ self.head.place }
+    {
+        Place {
+            number: self.head.place,
+        }
     }
 
-    // The head after one sample more: one index on, or at the next second's index 0.
-    fn next(self) -> Head
-        requires sound { faulty self ≡ false }
-        requires in_time { (end_of_time_of self).due ≡ false }
-        ensures { result ≡ next_head self }
+    // The head after one sample more: one index on, or at the next second's index 0; refused 8 where SOC 4294967295 has no next second.
+    fn next(self) -> Result<Head, Refused>
+        ensures { MatchResult result (λ h. ((end_of_time_of self.head).due ≡ false) × (h ≡ next_head self.head)) (λ r. (r ≡ EndOfTime) × ((end_of_time_of self.head).due ≡ true)) }
     {
-        let held = more_held(self.held);
-        let place = next_place(self.place);
-        let index = self.index + 1;
-        if index == self.sampling() {
-            return Head {
-                nominal: self.nominal,
-                rate: self.rate,
-                held,
-                soc: self.soc + 1,
-                index: 0,
-                place,
-            };
+        let next = Head {
+            held: (self.head.held + 1).min(31),
+            index: self.head.index + 1,
+            place: self.place().next().number,
+            ..self.head
+        };
+        if next.index < self.head.sampling() {
+            return Ok(next);
         }
-        Head {
-            nominal: self.nominal,
-            rate: self.rate,
-            held,
-            soc: self.soc,
-            index,
-            place,
+        match self.head.soc.checked_add(1) {
+            Some(second) => Ok(Head {
+                soc: second,
+                index: 0,
+                ..next
+            }),
+            None => Err(Refused::EndOfTime),
         }
     }
 
     // D = sampling / rate.
     fn spacing(self) -> u16
-        requires { faulty self ≡ false }
-        ensures { result ≡ spacing self.nominal self.rate }
+        ensures { result ≡ spacing self.head.nominal self.head.rate }
     {
-        self.sampling() / self.rate as u16
+        self.head.sampling() / u16::from(self.head.rate)
     }
 
     // Whether an index is a multiple of D: D goes into the sampling `rate` times, so exactly where index × rate is a multiple of the sampling.
     fn is_multiple(self, index: u16) -> bool
-        requires { faulty self ≡ false }
-        ensures { result ≡ eqb (index % spacing self.nominal self.rate) 0 }
+        ensures { result ≡ eqb (index % spacing self.head.nominal self.head.rate) 0 }
     {
-        let product = index as u32 * self.rate as u32;
-        if self.nominal == 50 {
+        let product = u32::from(index) * u32::from(self.head.rate);
+        if self.head.nominal == 50 {
             product % 750 == 0
         } else {
             product % 900 == 0
@@ -203,65 +224,71 @@ impl Head {
 
     // The sample 15 before the next one: of the same second, or of the second before.
     fn centre(self) -> Centre
-        requires sound { faulty self ≡ false }
-        requires enough { 30 ≤ self.held }
-        ensures { result ≡ centre_at self }
+        requires { 30 ≤ self.head.held }
+        ensures { result ≡ centre_at self.head }
     {
-        if self.index >= 15 {
+        if self.head.index >= 15 {
             return Centre {
-                soc: self.soc,
-                index: self.index - 15,
+                soc: self.head.soc,
+                index: self.head.index - 15,
             };
         }
         Centre {
-            soc: self.soc - 1,
-            index: self.index + self.sampling() - 15,
+            soc: self.head.soc - 1,
+            index: self.head.index + self.head.sampling() - 15,
         }
     }
 
-    // Whether a report comes with the next sample: 31 are then held, and the centre's index is a multiple of D.
-    fn is_due(self) -> bool
-        requires { faulty self ≡ false }
-        ensures { result ≡ due_with self }
+    // The centre of the report that comes with the next sample, if one is due: 31 are then held, and its index is a multiple of D.
+    #[tactic(auto, unfolding(crate::specs::Inside::due_with))]
+    fn due(self) -> Option<Centre>
+        ensures { result ≡ then_some (due_with self.head) (centre_at self.head) }
     {
-        if self.held < 30 {
-            return false;
+        if self.head.held < 30 {
+            return None;
         }
         let centre = self.centre();
-        self.is_multiple(centre.index)
+        self.is_multiple(centre.index).then_some(centre)
     }
 
     // The phase at the newest centre that comes with the next sample, which stands 14 behind it; zero while fewer than 29 are then held.
     fn newest(self, window: &[i16; 93]) -> Phase
-        requires { faulty self ≡ false }
-        ensures { result ≡ newest_with self (lent_samples 31 window.now) }
+        ensures { result ≡ newest_with self.head (lent_samples 31 window.now) }
     {
-        phase_if(self.held >= 28, newest_phase(window, self.index as usize))
+        phase_if(
+            self.head.held >= 28,
+            newest_phase(window, usize::from(self.head.index)),
+        )
     }
 
     // The phases at the three newest centres of the samples held; zero where a centre has not 29. The newest sample stands one before the next,
     // and so the first of thirty-one stands 31 before it, which is 14 on mod 15.
+    #[tactic(auto, unfolding(crate::specs::Inside::phase_over))]
     fn held_phases(self, window: &[i16; 93]) -> Phases
-        requires { faulty self ≡ false }
-        ensures { result ≡ phases_with self (lent_samples 31 window.now) }
+        ensures { result ≡ phases_with self.head (lent_samples 31 window.now) }
     {
-        let all = phases_of(window, self.index as usize + 14);
-        let p = phase_if(self.held >= 31, all.p);
-        let q = phase_if(self.held >= 30, all.q);
-        let r = phase_if(self.held >= 29, all.r);
-        Phases { p, q, r }
+        let all = phases_of(window, usize::from(self.head.index) + 14);
+        Phases {
+            p: phase_if(self.head.held >= 31, all.p),
+            q: phase_if(self.head.held >= 30, all.q),
+            r: phase_if(self.head.held >= 29, all.r),
+        }
     }
 
-    // The report that comes with the next sample, of the thirty-one samples and the phases then held: tagged with its centre's SOC and frame.
-    fn report(self, window: &[i16; 93], kept: Phases) -> Report
-        requires sound { faulty self ≡ false }
-        requires enough { 30 ≤ self.held }
-        ensures { said_report result ≡ report_with self (lent_samples 31 window.now) kept }
+    // The report that comes with the next sample, if one is due, of the thirty-one samples and the phases then held: tagged with its centre's SOC
+    // and frame.
+    fn report(self, window: &[i16; 93], kept: Phases) -> Option<Report>
+        ensures { said (Ok result) ≡ cond (due_with self.head) (report_with self.head (lent_samples 31 window.now) kept) taken }
     {
-        let centre = self.centre();
+        let centre = self.due()?;
         let frame = (centre.index / self.spacing()) as u8;
-        let figures = measure_kept(window, self.index as usize, kept, nominal_of(self.nominal));
-        Report {
+        let figures = measure_kept(
+            window,
+            usize::from(self.head.index),
+            kept,
+            nominal_of(self.head.nominal),
+        );
+        Some(Report {
             soc: centre.soc,
             frame,
             re: figures.re,
@@ -273,13 +300,14 @@ impl Head {
             im_peak: figures.im_peak,
             deviation: figures.deviation,
             rocof: figures.rocof,
-        }
+        })
     }
 }
 
 impl Feed {
     // A feed as it is opened: the nominal, the kept rate, the SOC, index 0, none held, place 0, all places zero, the kept
     // phases zero (CR 6). Of an unserved nominal or rate the numbers are faulty, and each push is refused 3.
+    #[tactic(auto, unfolding(crate::specs::Ring::opened, crate::specs::Places::zeros))]
     pub fn open(nominal: u8, rate: u8, soc: u32) -> Feed
         ensures { result ≡ opened nominal rate soc }
     {
@@ -298,65 +326,42 @@ impl Feed {
         }
     }
 
-    // One sample more, where it is not refused: it goes in the next place, which then moves on one, and the kept phases move on by one, with the
-    // newest centre's last (CR 6). The window is read before the sample is stored, since bytes that were just written are slow to read.
-    fn taken(self, s: Sample) -> Pushed
-        requires sound { faulty self.head ≡ false }
-        requires in_time { (end_of_time_of self.head).due ≡ false }
-        ensures { Pushing self s result }
+    // One sample more, refused 3, 8, and then nothing changes: it goes in the next place, which then moves on one, and the kept phases move on by
+    // one, with the newest centre's last (CR 6); with the report if one is due. The window is read before the sample is stored, since bytes that
+    // were just written are slow to read.
+    fn take(&mut self, s: Sample) -> Result<Option<Report>, Refused>
+        ensures { record { answer = said result; feed = self.new } ≡ pushed self.old s }
     {
-        let head = self.head;
-        let mut next = self;
-        let was = next.kept;
-        let window = window_with(&next.places, head.place, s);
-        let kept = moved_on(was, head.newest(&window));
-        put_sample(&mut next.places, head.place, s);
-        next.head = head.next();
-        next.kept = kept;
-        if head.is_due() {
-            let report = head.report(&window, kept);
-            return Pushed {
-                feed: next,
-                answer: Ok(Some(report)),
-            };
-        }
-        Pushed {
-            feed: next,
-            answer: Ok(None),
-        }
+        let head = self.head.sound()?;
+        let next = head.next()?;
+        let window = head.place().window_with(&self.places, s);
+        let kept = moved_on(self.kept, head.newest(&window));
+        head.place().put(&mut self.places, s);
+        self.head = next;
+        self.kept = kept;
+        Ok(head.report(&window, kept))
     }
 
     // One sample more: refused 3, 8, and then nothing changes; else it is taken, with the report if one is due.
     pub fn push(self, s: Sample) -> Pushed
         ensures { Pushing self s result }
     {
-        let head = self.head;
-        if head.is_faulty() {
-            return Pushed {
-                feed: self,
-                answer: Err(Refused::Damaged),
-            };
-        }
-        if head.is_end_of_time() {
-            return Pushed {
-                feed: self,
-                answer: Err(Refused::EndOfTime),
-            };
-        }
-        self.taken(s)
+        let mut feed = self;
+        let answer = feed.take(s);
+        Pushed { feed, answer }
     }
 
     // The feed with its kept phases worked out from the samples that it holds (CR 6); one whose numbers are faulty stays as it is.
     pub fn worked_out(self) -> Feed
         ensures { result ≡ worked_out self }
     {
-        let head = self.head;
-        if head.is_faulty() {
+        let Ok(head) = self.head.sound() else {
             return self;
+        };
+        let window = head.place().window(&self.places);
+        Feed {
+            kept: head.held_phases(&window),
+            ..self
         }
-        let mut next = self;
-        let window = window_from(&next.places, head.place);
-        next.kept = head.held_phases(&window);
-        next
     }
 }

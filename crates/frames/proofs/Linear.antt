@@ -3,11 +3,11 @@
 use mathlib.Core.Path.{◌≡◌, refl, sym, ap, ap₂, ◌∙◌, subst}
 use mathlib.Core.Bool.{Bool}
 use Prim.Native.Nat.{ℕ, zero, suc, ◌*◌, ◌/◌, ◌%◌, ◌^◌, ◌<◌}
-use native.Mathlib.Nat.{one-mul, zero-mul, mod-lt}
+use native.Mathlib.Nat.{add-zero, one-mul, zero-mul, mod-lt}
 use native.Mathlib.Numerals.{one-add}
 use native.Mathlib.Omega.{arith}
 use lib.Arith.{lt-one}
-use lib.Bits.{bit_xor, xor_assoc, xor_comm, xor_self, xor_zero_l, xor_block, xor_shr, xor_mod, xor_shifted}
+use lib.Bits.{bit_xor, xor_assoc, xor_comm, xor_self, xor_block, xor_shr, xor_mod, xor_shifted}
 use lib.Dec.{T, eqb, eqb→eq}
 use lib.Pow.{pow_pos, split, shr_lt}
 use mir.Facts.{and_yes}
@@ -20,11 +20,17 @@ by_bit P p q (suc zero) h = q
 by_bit P p q (suc (suc n)) h = absurd (omega (arith, h))
 
 pub swap_middle : (a b c d : ℕ) → bit_xor (bit_xor a b) (bit_xor c d) ≡ bit_xor (bit_xor a c) (bit_xor b d)
-swap_middle a b c d = grind (arith, xor_assoc, xor_comm)
+swap_middle a b c d =
+    xor_assoc a b (bit_xor c d)
+    ∙ ap (bit_xor a) (sym (xor_assoc b c d) ∙ ap (λ (x : ℕ). bit_xor x d) (xor_comm b c) ∙ xor_assoc c b d)
+    ∙ sym (xor_assoc a c (bit_xor b d))
 
 -- what is added twice is gone
 pub xor_cancel : (a b c : ℕ) → bit_xor a b ≡ bit_xor a c → b ≡ c
-xor_cancel a b c e = cc (xor_assoc a a b, xor_assoc a a c, xor_self a, xor_zero_l b, xor_zero_l c)
+xor_cancel a b c e = sym (gone b) ∙ ap (bit_xor a) e ∙ gone c
+  where
+    gone : (x : ℕ) → bit_xor a (bit_xor a x) ≡ x
+    gone x = sym (xor_assoc a a x) ∙ ap (λ (y : ℕ). bit_xor y x) (xor_self a)
 
 -- ---- linear expressions in one number
 
@@ -48,7 +54,8 @@ at (d ⊕ e) n = bit_xor (at d n) (at e n)
 at (d after e) n = at d (at e n)
 
 up_sum : (k a b : ℕ) → bit_xor a b * 2 ^ k ≡ bit_xor (a * 2 ^ k) (b * 2 ^ k)
-up_sum k a b = grind (arith, xor_block k a b 0 0 (pow_pos k) (pow_pos k))
+up_sum k a b =
+    sym (ap₂ bit_xor (sym (add-zero (a * 2 ^ k))) (sym (add-zero (b * 2 ^ k))) ∙ xor_block k a b 0 0 (pow_pos k) (pow_pos k) ∙ add-zero (bit_xor a b * 2 ^ k))
 
 pub linear : (e : Lin) (a b : ℕ) → at e (bit_xor a b) ≡ bit_xor (at e a) (at e b)
 linear whole a b = refl
