@@ -11,6 +11,7 @@ pub mod DeadFeeder
 pub mod Figures
 pub mod Document
 pub mod Tied
+pub mod Printing
 pub mod Rejected
 pub mod Refusing
 pub mod Numbered
