@@ -1,17 +1,16 @@
 -- Sums without carry: shifts, cuts and sums of them are linear, so two of them that agree at each power of 2 agree at every number.
 -- Assumes nothing.
 use mathlib.Core.Path.{◌≡◌, refl, sym, ap, ap₂, ◌∙◌, subst}
-use mathlib.Core.Bool.{Bool}
+use mathlib.Core.Bool.{Bool, true, ◌&&◌}
 use Prim.Native.Nat.{ℕ, zero, suc, ◌*◌, ◌/◌, ◌%◌, ◌^◌, ◌<◌}
-use native.Mathlib.Nat.{add-zero, one-mul, zero-mul, mod-lt}
+use native.Mathlib.Nat.{one-mul, zero-mul, mod-lt}
 use native.Mathlib.Numerals.{one-add}
 use native.Mathlib.Omega.{arith}
 use lib.Arith.{lt-one}
-use lib.Bits.{bit_xor, xor_assoc, xor_comm, xor_self, xor_block, xor_shr, xor_mod, xor_shifted}
+use lib.Bits.{bit_xor, xor_assoc, xor_comm, xor_self, xor_zero_l, xor_block, xor_shr, xor_mod, xor_shifted}
 use lib.Dec.{T, eqb, eqb→eq}
 use lib.Pow.{pow_pos, split, shr_lt}
 use mir.Facts.{and_yes}
-use Rattle.ints.proofs.Every.{every}
 
 -- what holds of 0 and of 1 holds of a bit
 pub by_bit : (P : ℕ → Type 0) → P 0 → P 1 → (n : ℕ) → n < 2 → P n
@@ -20,17 +19,11 @@ by_bit P p q (suc zero) h = q
 by_bit P p q (suc (suc n)) h = absurd (omega (arith, h))
 
 pub swap_middle : (a b c d : ℕ) → bit_xor (bit_xor a b) (bit_xor c d) ≡ bit_xor (bit_xor a c) (bit_xor b d)
-swap_middle a b c d =
-    xor_assoc a b (bit_xor c d)
-    ∙ ap (bit_xor a) (sym (xor_assoc b c d) ∙ ap (λ (x : ℕ). bit_xor x d) (xor_comm b c) ∙ xor_assoc c b d)
-    ∙ sym (xor_assoc a c (bit_xor b d))
+swap_middle a b c d = grind (arith, xor_assoc, xor_comm)
 
 -- what is added twice is gone
 pub xor_cancel : (a b c : ℕ) → bit_xor a b ≡ bit_xor a c → b ≡ c
-xor_cancel a b c e = sym (gone b) ∙ ap (bit_xor a) e ∙ gone c
-  where
-    gone : (x : ℕ) → bit_xor a (bit_xor a x) ≡ x
-    gone x = sym (xor_assoc a a x) ∙ ap (λ (y : ℕ). bit_xor y x) (xor_self a)
+xor_cancel a b c e = cc (xor_assoc a a b, xor_assoc a a c, xor_self a, xor_zero_l b, xor_zero_l c)
 
 -- ---- linear expressions in one number
 
@@ -54,8 +47,7 @@ at (d ⊕ e) n = bit_xor (at d n) (at e n)
 at (d after e) n = at d (at e n)
 
 up_sum : (k a b : ℕ) → bit_xor a b * 2 ^ k ≡ bit_xor (a * 2 ^ k) (b * 2 ^ k)
-up_sum k a b =
-    sym (ap₂ bit_xor (sym (add-zero (a * 2 ^ k))) (sym (add-zero (b * 2 ^ k))) ∙ xor_block k a b 0 0 (pow_pos k) (pow_pos k) ∙ add-zero (bit_xor a b * 2 ^ k))
+up_sum k a b = grind (arith, xor_block k a b 0 0 (pow_pos k) (pow_pos k))
 
 pub linear : (e : Lin) (a b : ℕ) → at e (bit_xor a b) ≡ bit_xor (at e a) (at e b)
 linear whole a b = refl
@@ -72,7 +64,8 @@ nothing e = linear e 0 0 ∙ xor_self (at e 0)
 
 module _ (d e : Lin) where
   abbrev agreeing : ℕ → Bool
-  agreeing k = every k (λ i. eqb (at d (2 ^ i)) (at e (2 ^ i)))
+  agreeing zero = true
+  agreeing (suc k) = eqb (at d (2 ^ k)) (at e (2 ^ k)) && agreeing k
 
   at_digit : (k t : ℕ) → t < 2 → at d (2 ^ k) ≡ at e (2 ^ k) → at d (t * 2 ^ k) ≡ at e (t * 2 ^ k)
   at_digit k t h p =
