@@ -1,9 +1,10 @@
 -- Zeros: how many, and in two parts. Blank bytes: of zeros, and what a blank list is. By the list's length. Assumes nothing.
 use mathlib.Core.Path.{◌≡◌, refl, sym, ap, ◌∙◌}
-use mathlib.Core.Bool.{Bool, true, false, ◌&&◌}
+use mathlib.Core.Bool.{Bool, true, false, ◌&&◌, and-true, and_assoc}
 use mathlib.Core.List.{List, [], ◌∷◌, ◌++◌}
 use Prim.Native.Nat.{ℕ, zero, suc, ◌+◌}
 use native.Mathlib.Omega.{arith}
+use Rattle.std.specs.Prelude.{fold}
 use lib.Dec.{eqb}
 use lib.ListN.{length, take, drop, length-replicate, replicate-append-replicate}
 use lib.Seq.{take_at, drop_at}
@@ -45,3 +46,9 @@ blank_zeros [] e = refl
 blank_zeros (b ∷ s) e =
     let h = both_true (eqb b 0) (blank s) e in
     rw (eqb-true b 0 h.0) (ap (λ (t : List ℕ). 0 ∷ t) (blank_zeros s h.1))
+
+-- tested byte by byte, with what was found before
+pub blank_fold : (z : Bool) (s : List ℕ) → fold (λ y b. y && eqb b 0) z s ≡ (z && blank s)
+unfolding blank
+blank_fold z [] = sym (and-true z)
+blank_fold z (b ∷ s) = blank_fold (z && eqb b 0) s ∙ and_assoc z (eqb b 0) (blank s)

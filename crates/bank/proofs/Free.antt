@@ -24,13 +24,17 @@ use Rattle.bank.proofs.Keeping.{free_undamaged, free_not_open}
 use Rattle.bank.proofs.Lent.{pass, inside, seen}
 use Rattle.bank.proofs.States.{free_damaged}
 
-pub all_zero : (s : List ℕ) → length s ≡ 256 → is_damaged s ≡ false → (state_in s ≡ 1 → ⊥) → s ≡ free_slot
-unfolding is_damaged free_slot
-all_zero s size sound shut =
+pub free_state : (s : List ℕ) → is_damaged s ≡ false → (state_in s ≡ 1 → ⊥) → state_in s ≡ 0
+unfolding is_damaged
+free_state s sound shut =
     let n = neither (ltb 1 (state_in s) || (is_free s && not (blank s))) (is_open s && (faulty (head_in s) || stray s)) sound in
     let m = neither (ltb 1 (state_in s)) (is_free s && not (blank s)) n.0 in
-    let free : state_in s ≡ 0 = omega (arith, ltb-false 1 (state_in s) m.0, shut) in
-    blank_zeros s (not-false (blank s) (sym (free_damaged s free) ∙ sound)) ∙ ap zeros size
+    omega (arith, ltb-false 1 (state_in s) m.0, shut)
+
+pub all_zero : (s : List ℕ) → length s ≡ 256 → is_damaged s ≡ false → (state_in s ≡ 1 → ⊥) → s ≡ free_slot
+unfolding free_slot
+all_zero s size sound shut =
+    blank_zeros s (not-false (blank s) (sym (free_damaged s (free_state s sound shut)) ∙ sound)) ∙ ap zeros size
 
 -- a slot of a cleared bank
 pub zeros_slot : (n : ℕ) → n ≤ 15 → slot_at (zeros 4096) n ≡ free_slot

@@ -3,6 +3,7 @@ use mathlib.Core.Path.{◌≡◌, refl, sym, ◌∙◌, ap}
 use mathlib.Core.Bool.{Bool, true, false, cond, not, ◌&&◌, ◌||◌, or-false, and-false}
 use mathlib.Core.List.{List}
 use Prim.Native.Nat.{ℕ, ◌*◌, ◌≤◌, ◌<◌}
+use native.Mathlib.Omega.{arith}
 use lib.Dec.{ltb}
 use lib.ListN.{drop}
 use borrow.Author.Tests.{eqb-true, ne_eqb, lt-ltb, ltb-true, ltb-false, not-true, not-false}
@@ -10,7 +11,9 @@ use Rattle.feed.specs.declared.Head.{Head}
 use Rattle.sampling.specs.Sampling.{sampling_of}
 use Rattle.feed.specs.Ring.{unserved, uneven, early, faulty}
 use Rattle.feed.proofs.Sound.{neither}
-use Rattle.std.specs.Prelude.{Some}
+use Rattle.std.specs.Prelude.{Some, None}
+use Rattle.std.specs.Option.{is_some}
+use Rattle.std.specs.Bool.{then_some}
 use Rattle.bank.specs.declared.damage.Damage.TheVariants.{Stray, Other}
 use Rattle.bank.specs.Slot.{state_in, head_in, places_in, tail_in}
 use Rattle.bank.specs.Damage.{blank, is_open, flag_over, stray, is_damaged, only_stray, damage_of}
@@ -68,19 +71,44 @@ only_stray_lem s e =
 pub stray_damaged : (s : List ℕ) → only_stray s ≡ true → is_damaged s ≡ true
 stray_damaged s e = let o = only_stray_lem s e in open_damaged s o.one ∙ or_either (faulty (head_in s)) o.some
 
--- a damaged slot, by whether it is open and its numbers are faulty
-module _ (s : List ℕ) (damaged : is_damaged s ≡ true) where
-  pub shut_other : (state_in s ≡ 1 → ⊥) → damage_of s ≡ Some Other
-  unfolding damage_of only_stray
-  shut_other shut = rw (damaged, ne_eqb (state_in s) 1 shut)
+-- how a slot is damaged, by its state
+module _ (s : List ℕ) where
+  pub blank_damage : state_in s ≡ 0 → blank s ≡ true → damage_of s ≡ None
+  unfolding damage_of
+  blank_damage e f = rw (free_damaged s e, f)
 
-  pub faulty_other : faulty (head_in s) ≡ true → damage_of s ≡ Some Other
+  pub unclean_damage : state_in s ≡ 0 → blank s ≡ false → damage_of s ≡ Some Other
   unfolding damage_of only_stray
-  faulty_other e = rw (damaged, e) (ap (λ (t : Bool). Some (cond t Stray Other)) (and-false (is_open s && stray s)))
+  unclean_damage e f = rw (free_damaged s e, f, e)
 
-  pub open_stray : state_in s ≡ 1 → faulty (head_in s) ≡ false → damage_of s ≡ Some Stray
+  pub faulty_damage : state_in s ≡ 1 → faulty (head_in s) ≡ true → damage_of s ≡ Some Other
+  unfolding damage_of is_damaged only_stray
+  faulty_damage one e = rw (one, e, and-false)
+
+  pub open_damage : state_in s ≡ 1 → faulty (head_in s) ≡ false → damage_of s ≡ then_some (stray s) Stray
+  unfolding damage_of is_damaged only_stray
+  open_damage one e = rw (one, e) (go (stray s))
+    where
+      go : (t : Bool) → cond t (Some (cond (t && true) Stray Other)) None ≡ then_some t Stray
+      go true = refl
+      go false = refl
+
+  pub other_damage : (state_in s ≡ 0 → ⊥) → (state_in s ≡ 1 → ⊥) → damage_of s ≡ Some Other
   unfolding damage_of only_stray
-  open_stray one e = let some = sym (open_damaged s one ∙ or_not (stray s) e) ∙ damaged in rw (damaged, one, some, e)
+  other_damage unfree shut =
+      let over : 1 < state_in s = omega arith in
+      rw (over_damaged s over, ne_eqb (state_in s) 1 shut)
+
+  -- by the state, and then by the bytes, the numbers and the stray bytes
+  pub ruleset damage_by_state = (blank_damage, unclean_damage, faulty_damage, open_damage, other_damage)
+
+  pub some_damage : is_some (damage_of s) ≡ is_damaged s
+  unfolding damage_of
+  some_damage = go (is_damaged s)
+    where
+      go : (t : Bool) → is_some (cond t (Some (cond (only_stray s) Stray Other)) None) ≡ t
+      go true = refl
+      go false = refl
 
 -- place over 30
 place_over : (h : Head) → 30 < h.place → faulty h ≡ true

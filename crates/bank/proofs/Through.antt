@@ -2,10 +2,10 @@
 -- push leaves the slot as it was, and a taken one the slot of the stored feed. Assumes nothing.
 use mathlib.Core.Path.{◌≡◌, refl, sym, ◌∙◌, ap}
 use mathlib.Core.Bool.{Bool, true, false, cond}
-use mathlib.Core.List.{List, ◌++◌}
-use Prim.Native.Nat.{ℕ, ◌+◌, ◌*◌, ◌≤◌}
+use mathlib.Core.List.{List}
+use Prim.Native.Nat.{ℕ, ◌≤◌}
 use lib.Dec.{eqb}
-use lib.ListN.{length, drop}
+use lib.ListN.{length}
 use Rattle.model.specs.declared.filter.Sample.{Sample}
 use Rattle.model.specs.declared.report.Phases.{Phases}
 use Rattle.feed.specs.declared.Feed.{Feed}
@@ -15,12 +15,11 @@ use Rattle.feed.specs.declared.Pushed.{Pushed}
 use Rattle.feed.specs.Answers.{Said, refused, done, taken, taken_with, said, tagged}
 use Rattle.feed.specs.History.{History, centre_of, is_due}
 use Rattle.feed.specs.Kept.{report_from, answered_from}
-use Rattle.feed.specs.Places.{place_of}
 use Rattle.feed.specs.Ring.{faulty, end_of_time_of, stored, history_of, Next, pushed, Pushing as FeedPushing}
-use Rattle.bank.specs.Slot.{state_in, head_in, head_bytes, kept_bytes, feed_in, slot_of, with_slot}
+use Rattle.bank.specs.Slot.{state_in, head_in, feed_in, slot_of, with_slot}
 use Rattle.bank.specs.Damage.{is_free, stray, is_damaged}
 use Rattle.bank.specs.Calls.{Outcome, pushed_at}
-use Rattle.bank.specs.Inside.{StandsIn, with_part}
+use Rattle.bank.specs.Inside.{StandsIn, written}
 use Rattle.bank.proofs.Lent.{pass, stop, inside, seen, unaltered}
 use Rattle.bank.proofs.States.{or_so, or_not, open_damaged}
 use Rattle.bank.proofs.Stray.{clean_tail}
@@ -46,10 +45,6 @@ left_answered h k before written = go (is_due h)
 pub left_taken : (a : Option Report) (before written : List ℕ) → left (said (Ok a)) before written ≡ written
 left_taken None before written = refl
 left_taken (Some r) before written = refl
-
--- the slot with what a push writes: the numbers, the sample in the next place, and the kept phases
-abbrev pub written : List ℕ → Sample → Feed → List ℕ
-written s v f = with_part 197 15 (kept_bytes f.kept) (with_part (11 + 6 * (head_in s).place) 6 (place_of v) (head_bytes f.head ++ drop 11 s))
 
 -- how the bank's push ends where the feed's gives this
 abbrev pub ended : List ℕ → ℕ → List ℕ → Sample → Next → Outcome

@@ -1,10 +1,13 @@
 -- What the functions inside ask and promise of a slot's 256 bytes. A reader of the calls' promises needs nothing of this.
-use Rattle.std.specs.Prelude.{Result, Ok, Err, ◌≡◌, ◌⊎◌, List, [], ◌∷◌, ◌++◌, ℕ, ◌*◌, ◌≤◌, length, take, drop}
+use Rattle.std.specs.Prelude.{Result, Ok, Err, ◌≡◌, ◌⊎◌, List, [], ◌∷◌, ◌++◌, ℕ, ◌+◌, ◌*◌, ◌≤◌, length, take, drop}
 use Rattle.std.specs.Borrow.{MutBor}
 use Rattle.std.specs.Fn.{Once, FnOnceReturnsAtMut}
 use Rattle.refusals.specs.declared.Refused.{Refused}
 use Rattle.refusals.specs.Refusals.{unless_refused, by_number}
-use Rattle.bank.specs.Slot.{slot_at, with_slot}
+use Rattle.model.specs.declared.filter.Sample.{Sample}
+use Rattle.feed.specs.declared.Feed.{Feed}
+use Rattle.feed.specs.Places.{place_of}
+use Rattle.bank.specs.Slot.{slot_at, with_slot, head_in, head_bytes, kept_bytes}
 use Rattle.bank.specs.Calls.{wrong_length, no_slot}
 
 -- what `find` promises: the refusal that is due, 1 or 2, or where the slot begins
@@ -31,3 +34,7 @@ abbrev pub Steps : {F T : Type 0} → Once F (MutBor (List ℕ) × Unit {0}) (Re
 Steps g step bank slot r after =
     ((number : Refused) × Finds bank slot (Err number) × (r ≡ Err number) × (after ≡ bank))
     ⊎ ((s : List ℕ) × StandsIn bank slot (slot_at bank slot) × FnOnceReturnsAtMut g step (slot_at bank slot) r s × (after ≡ with_slot bank slot s))
+
+-- an open slot with what a push writes of a sample and the next feed: the numbers, the sample in the next place, and the kept phases
+abbrev pub written : List ℕ → Sample → Feed → List ℕ
+written s v f = with_part 197 15 (kept_bytes f.kept) (with_part (11 + 6 * (head_in s).place) 6 (place_of v) (head_bytes f.head ++ drop 11 s))

@@ -3,7 +3,6 @@ ghost use Rattle.bank.specs.Calls.{Closing};
 ghost use Rattle.bank.specs.Inside.{Lent};
 
 use crate::damage::is_damaged;
-use crate::slot::zero;
 use refusals::Refused;
 
 // An open slot is zeroed.
@@ -16,6 +15,6 @@ pub(crate) fn close_slot(slot: &mut [u8; 256]) -> Result<(), Refused>
     if slot[0] == 0 {
         return Err(Refused::NotOpen);
     }
-    zero(slot);
+    slot.fill(0);
     Ok(())
 }

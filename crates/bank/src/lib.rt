@@ -16,8 +16,8 @@ use model::Sample;
 use opening::open_slot;
 use pushing::push_slot;
 use refusals::Refused;
+use slot::at_slot;
 pub use slot::worked_out;
-use slot::{at_slot, zero};
 
 // The bank is zeroed: refused 1, and then nothing changes.
 pub fn clear(bank: &mut [u8]) -> Result<(), Refused>
@@ -26,7 +26,7 @@ pub fn clear(bank: &mut [u8]) -> Result<(), Refused>
     if bank.len() != 4096 {
         return Err(Refused::BankLength);
     }
-    zero(bank);
+    bank.fill(0);
     Ok(())
 }
 

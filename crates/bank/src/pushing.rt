@@ -4,7 +4,7 @@ ghost use Rattle.bank.specs.Slot.{state_in};
 ghost use Rattle.bank.specs.Calls.{Pushing};
 ghost use Rattle.bank.specs.Inside.{Lent};
 
-use crate::damage::{is_blank, is_stray};
+use crate::damage::{is_damaged, is_stray};
 use crate::slot::{put_back, read_feed};
 use feed::Report;
 use model::Sample;
@@ -14,17 +14,13 @@ use refusals::Refused;
 pub(crate) fn push_slot(slot: &mut [u8; 256], s: Sample) -> Result<Option<Report>, Refused>
     ensures { Lent (λ bank n after. Pushing bank n s result after) slot.old slot.new }
 {
-    let state = slot[0];
-    if state > 1 {
+    if slot[0] == 1 {
+        return push_open(slot, s);
+    }
+    if is_damaged(slot) {
         return Err(Refused::Damaged);
     }
-    if state == 0 {
-        if is_blank(slot) {
-            return Err(Refused::NotOpen);
-        }
-        return Err(Refused::Damaged);
-    }
-    push_open(slot, s)
+    Err(Refused::NotOpen)
 }
 
 // A push, of an open slot. Stray bytes, flags over 1 and a place over 30 are refused here; the feed passes through as one value, which refuses its other
@@ -33,15 +29,11 @@ fn push_open(slot: &mut [u8; 256], s: Sample) -> Result<Option<Report>, Refused>
     requires { state_in slot.old ≡ 1 }
     ensures { Lent (λ bank n after. Pushing bank n s result after) slot.old slot.new }
 {
-    let place = slot[10];
-    if is_stray(slot) | (place > 30) {
+    if is_stray(slot) | (slot[10] > 30) {
         return Err(Refused::Damaged);
     }
-    let feed = read_feed(slot);
-    let next = feed.push(s);
-    let head = next.feed.head;
-    let kept = next.feed.kept;
+    let next = read_feed(slot).push(s);
     let answer = next.answer?;
-    put_back(slot, place, head, s, kept);
+    put_back(slot, s, next.feed);
     Ok(answer)
 }

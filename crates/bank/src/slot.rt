@@ -1,8 +1,7 @@
 // Document 01, "The bank", with CR 6: what stands where in a slot of 256 bytes.
-ghost use Rattle.std.specs.Prelude.{◌≡◌, ◌+◌, ◌*◌, ◌≤◌, ◌<◌, length, drop, ◌++◌};
-ghost use Rattle.feed.specs.Places.{zeros, place_of};
-ghost use Rattle.bank.specs.Slot.{head_in, head_bytes, places_in, phase_in, kept_in, flag_of, kept_bytes, feed_in, worked_out_in};
-ghost use Rattle.bank.specs.Inside.{Finds, Steps, with_part};
+ghost use Rattle.std.specs.Prelude.{◌≡◌, ◌+◌, ◌≤◌, ◌<◌, drop, ◌++◌};
+ghost use Rattle.bank.specs.Slot.{head_in, head_bytes, phase_in, kept_in, kept_bytes, feed_in, worked_out_in};
+ghost use Rattle.bank.specs.Inside.{Finds, Steps, with_part, written};
 
 use bits::{be16, be32};
 use feed::{Feed, Head, place_of};
@@ -19,7 +18,7 @@ fn find(bank: &[u8], slot: u8) -> Result<usize, Refused>
     if slot > 15 {
         return Err(Refused::NoSlot);
     }
-    Ok(256 * (slot as usize))
+    Ok(256 * usize::from(slot))
 }
 
 // A step on the 256 bytes of a slot, which are lent to it: refused 1, 2, and then nothing changes; else the step answers.
@@ -37,26 +36,8 @@ pub(crate) fn at_slot<T, F: FnOnce(&mut [u8; 256]) -> Result<T, Refused>>(
     step(bytes)
 }
 
-// Zeroes every byte.
-pub(crate) fn zero(s: &mut [u8])
-    ensures { s.new ≡ zeros (length s.old) }
-{
-    let mut i = 0;
-    while i < s.len() {
-        s[i] = 0;
-        i += 1;
-    }
-}
-
-// All of `from` over `to`, which is as long.
-fn put(to: &mut [u8], from: &[u8])
-    requires { length to.old ≡ length from.now }
-    ensures { to.new ≡ from.now }
-{
-    to.copy_from_slice(from);
-}
-
 // The numbers of an open slot, bytes 1 to 10.
+#[tactic(auto, unfolding(crate::specs::Slot::head_in))]
 pub(crate) fn read_head(s: &[u8; 256]) -> Head
     ensures { result ≡ head_in s.now }
 {
@@ -68,15 +49,6 @@ pub(crate) fn read_head(s: &[u8; 256]) -> Head
         index: be16(s[8], s[9]),
         place: s[10],
     }
-}
-
-// The thirty-one places, bytes 11 to 196.
-fn read_places(s: &[u8; 256]) -> [u8; 186]
-    ensures { result ≡ places_in s.now }
-{
-    let mut places = [0u8; 186];
-    put(&mut places, &s[11..197]);
-    places
 }
 
 // The phase whose angle is in four bytes from one on, and whose no-phase flag is in another.
@@ -91,6 +63,7 @@ fn phase_at(s: &[u8; 256], at: usize, flag: usize) -> Phase
 }
 
 // The kept phases: angles in bytes 197 to 208, flags in bytes 209 to 211 (CR 6).
+#[tactic(auto, unfolding(crate::specs::Slot::kept_in))]
 fn read_kept(s: &[u8; 256]) -> Phases
     ensures { result ≡ kept_in s.now }
 {
@@ -100,103 +73,67 @@ fn read_kept(s: &[u8; 256]) -> Phases
     Phases { p, q, r }
 }
 
-// The feed that an open slot keeps.
+// The feed that an open slot keeps: its numbers, the thirty-one places in bytes 11 to 196, and the kept phases.
+#[tactic(auto, unfolding(crate::specs::Slot::feed_in, crate::specs::Slot::places_in))]
 pub(crate) fn read_feed(s: &[u8; 256]) -> Feed
     ensures { result ≡ feed_in s.now }
 {
-    let head = read_head(s);
-    let places = read_places(s);
-    let kept = read_kept(s);
-    Feed { head, places, kept }
+    Feed {
+        head: read_head(s),
+        places: *s[11..197].as_array().unwrap(),
+        kept: read_kept(s),
+    }
 }
 
 // Bytes 0 to 10 of an open slot.
+#[tactic(auto, unfolding(crate::specs::Slot::head_bytes))]
 fn head_bytes(h: Head) -> [u8; 11]
     ensures { result ≡ head_bytes h }
 {
-    [
-        1,
-        h.nominal,
-        h.rate,
-        h.held,
-        (h.soc / 16777216) as u8,
-        (h.soc / 65536 % 256) as u8,
-        (h.soc / 256 % 256) as u8,
-        (h.soc % 256) as u8,
-        (h.index / 256) as u8,
-        (h.index % 256) as u8,
-        h.place,
-    ]
+    let [a, b, c, d] = h.soc.to_be_bytes();
+    let [high, low] = h.index.to_be_bytes();
+    [1, h.nominal, h.rate, h.held, a, b, c, d, high, low, h.place]
 }
 
-// 1 where there is no phase, else 0.
-fn flag_of(p: Phase) -> u8
-    ensures { result ≡ flag_of p }
-{
-    if p.none { 1 } else { 0 }
-}
-
-// Bytes 197 to 211 of an open slot: the angles, then the flags (CR 6).
+// Bytes 197 to 211 of an open slot: the angles, then the flags, 1 where there is no phase (CR 6).
+#[tactic(auto, unfolding(crate::specs::Slot::kept_bytes))]
 fn kept_bytes(kept: Phases) -> [u8; 15]
     ensures { result ≡ kept_bytes kept }
 {
-    let p = kept.p.angle.parts;
-    let q = kept.q.angle.parts;
-    let r = kept.r.angle.parts;
-    [
-        (p / 16777216) as u8,
-        (p / 65536 % 256) as u8,
-        (p / 256 % 256) as u8,
-        (p % 256) as u8,
-        (q / 16777216) as u8,
-        (q / 65536 % 256) as u8,
-        (q / 256 % 256) as u8,
-        (q % 256) as u8,
-        (r / 16777216) as u8,
-        (r / 65536 % 256) as u8,
-        (r / 256 % 256) as u8,
-        (r % 256) as u8,
-        flag_of(kept.p),
-        flag_of(kept.q),
-        flag_of(kept.r),
-    ]
-}
-
-// Bytes put over as many of a slot, from one on. The other bytes stay.
-fn put_part(s: &mut [u8; 256], from: usize, part: &[u8])
-    requires { from + length part.now ≤ 256 }
-    ensures { s.new ≡ with_part from (length part.now) part.now s.old }
-{
-    let to = from + part.len();
-    put(&mut s[from..to], part);
+    let [p0, p1, p2, p3] = kept.p.angle.parts.to_be_bytes();
+    let [q0, q1, q2, q3] = kept.q.angle.parts.to_be_bytes();
+    let [r0, r1, r2, r3] = kept.r.angle.parts.to_be_bytes();
+    let p = u8::from(kept.p.none);
+    let q = u8::from(kept.q.none);
+    let r = u8::from(kept.r.none);
+    [p0, p1, p2, p3, q0, q1, q2, q3, r0, r1, r2, r3, p, q, r]
 }
 
 // The numbers go into a slot, as bytes 0 to 10 of an open one. The other bytes stay.
 pub(crate) fn put_head(s: &mut [u8; 256], h: Head)
     ensures { s.new ≡ head_bytes h ++ drop 11 s.old }
 {
-    let head = head_bytes(h);
-    put_part(s, 0, &head);
+    s[..11].copy_from_slice(&head_bytes(h));
 }
 
 // The kept phases go into a slot. The other bytes stay.
+#[tactic(auto, using(crate::proofs::Written::part_put))]
 fn put_kept(s: &mut [u8; 256], kept: Phases)
     ensures { s.new ≡ with_part 197 15 (kept_bytes kept) s.old }
 {
-    let bytes = kept_bytes(kept);
-    put_part(s, 197, &bytes);
+    s[197..212].copy_from_slice(&kept_bytes(kept));
 }
 
-// What a push changes goes back into the slot: the numbers, the sample in its place, and the kept phases. The other bytes stay.
-pub(crate) fn put_back(s: &mut [u8; 256], place: u8, h: Head, x: Sample, kept: Phases)
-    requires { place ≤ 30 }
-    ensures { s.new ≡ with_part 197 15 (kept_bytes kept) (with_part (11 + 6 * place) 6 (place_of x) (head_bytes h ++ drop 11 s.old)) }
+// What a push changes goes back into the slot: the numbers, the sample in the next place, and the kept phases. The other bytes stay.
+#[tactic(auto, unfolding(crate::specs::Slot::head_in), using(crate::proofs::Written::part_put))]
+pub(crate) fn put_back(s: &mut [u8; 256], x: Sample, next: Feed)
+    requires { (head_in s.old).place ≤ 30 }
+    ensures { s.new ≡ written s.old x next }
 {
-    let six = place_of(x);
-    let from = 11 + 6 * (place as usize);
-    put_head(s, h);
-    put_part(s, from, &six);
-    put_kept(s, kept);
+    let from = 11 + 6 * usize::from(s[10]);
+    put_head(s, next.head);
+    s[from..from + 6].copy_from_slice(&place_of(x));
+    put_kept(s, next.kept);
 }
 
 // An open slot with its kept phases worked out from the samples that it holds (CR 6), or with those that it keeps where its numbers are faulty; any

@@ -1,6 +1,8 @@
 -- `bank::clear` meets its contract. Assumes nothing.
-use mathlib.Core.Path.{sym, ◌∙◌, ap}
+use borrow.Author.Rules.{rules}
+use mathlib.Core.Path.{◌≡◌, sym, ◌∙◌, ap}
 use mathlib.Core.Bool.{not}
+use lib.ListN.{length}
 use borrow.Author.Tests.{eq-eqb, ne_eqb}
 use Rattle.feed.specs.Answers.{done}
 use Rattle.feed.specs.Places.{zeros}
@@ -13,8 +15,8 @@ unfolding cleared
 returns-then-bank-ne4096 c = sym (stop _ _ (ap not (ne_eqb _ _ c.if-bank-ne4096.true)))
 
 pub returns : goal.returns
-unfolding cleared
+unfolding cleared zeros
 returns c =
     let whole = c.if-bank-ne4096.false in
-    let blank = c.zero.ensures ∙ ap zeros whole in
-    (λ i. record { answer = done; bank = blank i }) ∙ sym (pass _ _ (ap not (eq-eqb _ _ whole)))
+    let blank : c.fill.new.self ≡ zeros (length c.args.bank.now) = search rules in
+    (λ i. record { answer = done; bank = (blank ∙ ap zeros whole) i }) ∙ sym (pass _ _ (ap not (eq-eqb _ _ whole)))

@@ -1,4 +1,5 @@
 -- `bank::closing::close_slot` meets its contract. Assumes nothing.
+use borrow.Author.Rules.{rules}
 use mathlib.Core.Path.{◌≡◌, sym, ◌∙◌, ap}
 use native.Mathlib.Omega.{arith}
 use lib.ListN.{length}
@@ -29,10 +30,12 @@ returns-then-slot-eq0 c =
     )
 
 pub returns : goal.returns
-unfolding closed_at free_slot
+unfolding closed_at free_slot zeros
 returns c =
     λ bank slot l.
-    let free = c.zero.ensures ∙ ap zeros (let n : length c.args.slot.now ≡ 256 = omega arith in n) in
+    let blank : c.fill.new.self ≡ zeros (length c.args.slot.now) = search rules in
+    let size : length c.args.slot.now ≡ 256 = omega arith in
+    let free = blank ∙ ap zeros size in
     (λ i. record { answer = done; bank = with_slot bank slot (free i) })
     ∙ sym (
     inside l _ _ _

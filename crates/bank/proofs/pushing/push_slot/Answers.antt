@@ -1,32 +1,25 @@
 -- `bank::pushing::push_slot` meets its contract: by the state. Assumes nothing.
-use mathlib.Core.Path.{sym, ◌∙◌, ap}
-use mathlib.Core.Bool.{not}
+use mathlib.Core.Path.{sym, ◌∙◌}
 use borrow.Author.Tests.{eq-eqb}
 use Rattle.bank.specs.Damage.{is_free, is_damaged}
 use Rattle.bank.specs.Calls.{pushed_at}
+use Rattle.bank.proofs.Free.{free_state}
 use Rattle.bank.proofs.Lent.{pass, stop, inside, seen, unaltered}
-use Rattle.bank.proofs.States.{over_damaged, free_damaged}
 use Rattle.bank.proofs.pushing.push_slot.Goals as goal
 
-pub returns-then-state-gt1 : goal.returns-then-state-gt1
+pub returns-then-is_damaged : goal.returns-then-is_damaged
 unfolding pushed_at
-returns-then-state-gt1 c = λ bank slot l. unaltered l _ ∙ sym (inside l _ _ _ ∙ stop _ _ (seen l is_damaged (over_damaged _ c.if-state-gt1.true)))
+returns-then-is_damaged c =
+    λ bank slot l. unaltered l _ ∙ sym (inside l _ _ _ ∙ stop _ _ (seen l is_damaged (sym c.is_damaged.ensures ∙ c.if-is_damaged.true)))
 
-pub returns-then-is_blank : goal.returns-then-is_blank
+pub returns : goal.returns
 unfolding pushed_at
-returns-then-is_blank c =
+returns c =
     λ bank slot l.
-    let free = c.if-state-eq0.true in
+    let sound = sym c.is_damaged.ensures ∙ c.if-is_damaged.false in
     unaltered l _
     ∙ sym (
     inside l _ _ _
-    ∙ pass _ _ (seen l is_damaged (free_damaged _ free ∙ ap not (sym c.is_blank.ensures ∙ c.if-is_blank.true)))
-    ∙ stop _ _ (seen l is_free (eq-eqb _ _ free))
+    ∙ pass _ _ (seen l is_damaged sound)
+    ∙ stop _ _ (seen l is_free (eq-eqb _ _ (free_state _ sound c.if-slot-eq1.false)))
     )
-
-pub returns-then-state-eq0 : goal.returns-then-state-eq0
-unfolding pushed_at
-returns-then-state-eq0 c =
-    λ bank slot l.
-    let unclean = free_damaged _ c.if-state-eq0.true ∙ ap not (sym c.is_blank.ensures ∙ c.if-is_blank.false) in
-    unaltered l _ ∙ sym (inside l _ _ _ ∙ stop _ _ (seen l is_damaged unclean))
