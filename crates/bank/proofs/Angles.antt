@@ -2,7 +2,7 @@
 -- what the rule gives. Assumes nothing.
 use mathlib.Core.Path.{◌≡◌, sym, ap, ◌∙◌}
 use mathlib.Core.Bool.{true, false}
-use mathlib.Core.List.{List, ◌++◌}
+use mathlib.Core.List.{List}
 use Prim.Native.Nat.{ℕ, ◌*◌, ◌<◌}
 use native.Mathlib.Omega.{arith}
 use lib.Dec.{lit<}
@@ -35,18 +35,18 @@ slot_true f whole t one =
 -- ---- worked out
 
 -- what the code puts
-pub worked_open : (s : List ℕ) → state_in s ≡ 1 → (f : Feed) → f ≡ feed_in s → (g : Feed) → g ≡ worked_out f → (t : List ℕ) → t ≡ with_part 197 15 (kept_bytes g.kept) s
-    → t ≡ worked_out_in s
+pub worked_open : (s : List ℕ) → state_in s ≡ 1 → with_part 197 15 (kept_bytes (worked_out (feed_in s)).kept) s ≡ worked_out_in s
 unfolding worked_out_in
-worked_open s one f e g d t p =
+worked_open s one =
     let rest : drop 15 (drop 197 s) ≡ drop 212 s = drop-drop 15 197 s in
-    let part = ap (λ (h : Feed). kept_bytes h.kept) (d ∙ ap worked_out e) in
-    rw (eq-eqb (state_in s) 1 one) (p ∙ (λ i. take 197 s ++ (part i ++ rest i)))
+    rw (eq-eqb (state_in s) 1 one, rest)
 
 -- a slot that is not open stays
 pub shut_stays : (s : List ℕ) → (state_in s ≡ 1 → ⊥) → worked_out_in s ≡ s
 unfolding worked_out_in
 shut_stays s shut = rw (ne_eqb (state_in s) 1 shut)
+
+pub ruleset worked = (worked_open, shut_stays)
 
 module _ (s : List ℕ) (one : state_in s ≡ 1) (faultless : faulty (head_in s) ≡ false) where
   -- the phases that the rule gives, as bytes

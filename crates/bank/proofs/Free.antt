@@ -2,26 +2,18 @@
 -- slot. Assumes nothing.
 use mathlib.Core.Path.{◌≡◌, refl, sym, ◌∙◌, ap}
 use mathlib.Core.Bool.{false, not, ◌&&◌, ◌||◌}
-use mathlib.Core.List.{List, [], ◌∷◌, ◌++◌}
+use mathlib.Core.List.{List, ◌++◌}
 use Prim.Native.Nat.{ℕ, ◌-◌, ◌*◌, ◌≤◌}
 use native.Mathlib.Omega.{arith}
 use lib.Dec.{ltb}
 use lib.ListN.{length, take, drop}
 use borrow.Author.Tests.{ltb-false, not-false}
-use Rattle.refusals.specs.Refusals.{unless_refused}
-use Rattle.sampling.specs.Tags.{no_nominal, no_rate}
-use Rattle.feed.specs.declared.Feed.{Feed}
-use Rattle.feed.specs.Answers.{done}
 use Rattle.feed.specs.Places.{zeros}
 use Rattle.feed.specs.Ring.{faulty, opened}
 use Rattle.feed.proofs.Sound.{neither}
-use Rattle.bank.specs.Slot.{slot_at, with_slot, state_in, head_in, head_bytes, kept_bytes, tail_of, slot_of, free_slot}
+use Rattle.bank.specs.Slot.{slot_at, state_in, head_in, head_bytes, kept_bytes, tail_of, slot_of, free_slot}
 use Rattle.bank.specs.Damage.{blank, is_free, is_open, stray, is_damaged}
-use Rattle.bank.specs.Calls.{refusing, opened_at}
-use Rattle.bank.specs.Inside.{StandsIn}
 use Rattle.bank.proofs.Blank.{blank_zeros, zeros_front, zeros_rest}
-use Rattle.bank.proofs.Keeping.{free_undamaged, free_not_open}
-use Rattle.bank.proofs.Lent.{pass, inside, seen}
 use Rattle.bank.proofs.States.{free_damaged}
 
 pub free_state : (s : List ℕ) → is_damaged s ≡ false → (state_in s ≡ 1 → ⊥) → state_in s ≡ 0
@@ -47,17 +39,6 @@ laid : (nominal rate soc : ℕ) → head_bytes (opened nominal rate soc).head ++
 unfolding opened slot_of kept_bytes tail_of free_slot zeros
 laid nominal rate soc = refl
 
-pub opened_slot : {s : List ℕ} {f : Feed} (nominal rate soc : ℕ) → s ≡ free_slot → f ≡ opened nominal rate soc
-    → head_bytes f.head ++ drop 11 s ≡ slot_of (opened nominal rate soc)
-opened_slot nominal rate soc free is = rw (free, is) (laid nominal rate soc)
-
--- an opening of a free slot: 1, 2, 3 and 4 are passed
-pub at_free : {bank : List ℕ} {slot : ℕ} {s : List ℕ} → StandsIn bank slot s → s ≡ free_slot → (nominal rate soc : ℕ)
-    → opened_at bank slot nominal rate soc
-    ≡ unless_refused (no_nominal nominal ∷ no_rate nominal rate ∷ []) (refusing bank)
-    (record { answer = done; bank = with_slot bank slot (slot_of (opened nominal rate soc)) })
-unfolding opened_at
-at_free l free nominal rate soc =
-    inside l _ _ _
-    ∙ pass _ _ (seen l is_damaged (ap is_damaged free ∙ free_undamaged))
-    ∙ pass _ _ (seen l is_open (ap is_open free ∙ free_not_open))
+pub opened_slot : (s : List ℕ) (nominal rate soc : ℕ) → length s ≡ 256 → is_damaged s ≡ false → (state_in s ≡ 1 → ⊥)
+    → head_bytes (opened nominal rate soc).head ++ drop 11 s ≡ slot_of (opened nominal rate soc)
+opened_slot s nominal rate soc size sound shut = rw (all_zero s size sound shut) (laid nominal rate soc)

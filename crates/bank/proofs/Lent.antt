@@ -10,7 +10,7 @@ use Rattle.feed.specs.Answers.{Said}
 use Rattle.bank.specs.Slot.{slot_at, with_slot}
 use Rattle.bank.specs.Calls.{Outcome}
 use Rattle.bank.specs.Inside.{StandsIn}
-use Rattle.bank.proofs.Slots.{put_back}
+use Rattle.bank.proofs.Slots.{put_back, slot_length}
 
 -- a refusal that is not due is passed, and one that is due is given
 pub pass : {A : Type 0} {t : Bool} (x y : A) → t ≡ false → cond t x y ≡ y
@@ -27,6 +27,9 @@ module _ {bank : List ℕ} {slot : ℕ} {s : List ℕ} (l : StandsIn bank slot s
   -- what is seen of the bytes is seen of the slot
   pub seen : {A : Type 0} {v : A} (f : List ℕ → A) → f s ≡ v → f (slot_at bank slot) ≡ v
   seen f e = ap f l.there ∙ e
+
+  pub size : length s ≡ 256
+  size = ap length (sym l.there) ∙ slot_length bank slot l.whole l.named
 
   unmoved : with_slot bank slot s ≡ bank
   unmoved = ap (λ (t : List ℕ). with_slot bank slot t) (sym l.there) ∙ put_back bank slot

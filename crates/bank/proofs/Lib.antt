@@ -15,4 +15,5 @@ pub mod Stray
 pub mod Free
 pub mod States
 pub mod Written
+pub mod Outcomes
 pub mod Through

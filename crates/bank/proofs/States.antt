@@ -1,12 +1,12 @@
 -- Damage by the slot's state: over 1, free, open; what holds of a slot without stray bytes, and of one that only they damage. Assumes nothing.
-use mathlib.Core.Path.{◌≡◌, refl, sym, ◌∙◌, ap}
+use mathlib.Core.Path.{◌≡◌, refl, ◌∙◌, ap}
 use mathlib.Core.Bool.{Bool, true, false, cond, not, ◌&&◌, ◌||◌, or-false, and-false}
 use mathlib.Core.List.{List}
-use Prim.Native.Nat.{ℕ, ◌*◌, ◌≤◌, ◌<◌}
+use Prim.Native.Nat.{ℕ, ◌*◌, ◌<◌}
 use native.Mathlib.Omega.{arith}
 use lib.Dec.{ltb}
 use lib.ListN.{drop}
-use borrow.Author.Tests.{eqb-true, ne_eqb, lt-ltb, ltb-true, ltb-false, not-true, not-false}
+use borrow.Author.Tests.{eqb-true, ne_eqb, lt-ltb, ltb-true, not-true, not-false}
 use Rattle.feed.specs.declared.Head.{Head}
 use Rattle.sampling.specs.Sampling.{sampling_of}
 use Rattle.feed.specs.Ring.{unserved, uneven, early, faulty}
@@ -125,7 +125,3 @@ module _ (s : List ℕ) where
       go : (t : Bool) → stray s ≡ t → (t || ltb 30 (head_in s).place) ≡ true → is_damaged s ≡ true
       go true p e = open_damaged s one ∙ or_either (faulty (head_in s)) p
       go false p e = open_damaged s one ∙ or_so _ (place_over (head_in s) (ltb-true 30 (head_in s).place e))
-
-  -- neither, by a flag that is the first test
-  pub no_stray_nor_over : {strays : Bool} → strays ≡ stray s → (strays || ltb 30 (head_in s).place) ≡ false → (stray s ≡ false) × ((head_in s).place ≤ 30)
-  no_stray_nor_over {strays} e f = let both = neither strays _ f in (sym e ∙ both.0, ltb-false 30 (head_in s).place both.1)

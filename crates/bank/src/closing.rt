@@ -6,6 +6,7 @@ use crate::damage::is_damaged;
 use refusals::Refused;
 
 // An open slot is zeroed.
+#[tactic(auto, unfolding(crate::specs::Slot::free_slot, feed::specs::Places::zeros), using(crate::proofs::Outcomes::closings))]
 pub(crate) fn close_slot(slot: &mut [u8; 256]) -> Result<(), Refused>
     ensures { Lent (λ bank n after. Closing bank n result after) slot.old slot.new }
 {

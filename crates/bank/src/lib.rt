@@ -20,6 +20,7 @@ use slot::at_slot;
 pub use slot::worked_out;
 
 // The bank is zeroed: refused 1, and then nothing changes.
+#[tactic(auto, unfolding(feed::specs::Places::zeros), using(crate::proofs::Outcomes::clearings))]
 pub fn clear(bank: &mut [u8]) -> Result<(), Refused>
     ensures { Clearing bank.old result bank.new }
 {
@@ -48,5 +49,5 @@ pub fn push(bank: &mut [u8], slot: u8, s: Sample) -> Result<Option<Report>, Refu
 pub fn close(bank: &mut [u8], slot: u8) -> Result<(), Refused>
     ensures { Closing bank.old slot result bank.new }
 {
-    at_slot(bank, slot, |bytes| close_slot(bytes))
+    at_slot(bank, slot, close_slot)
 }

@@ -1,6 +1,5 @@
 // Opening, of a slot by itself: refused 3, 4, 6, 7.
 ghost use Rattle.std.specs.Prelude.{◌≡◌};
-ghost use Rattle.bank.specs.Slot.{free_slot};
 ghost use Rattle.bank.specs.Calls.{Opening};
 ghost use Rattle.bank.specs.Inside.{Lent};
 
@@ -9,7 +8,8 @@ use crate::slot::put_head;
 use feed::Feed;
 use refusals::Refused;
 
-// A free slot takes a feed as it is opened, by the slot's state.
+// A free slot takes a feed as it is opened. It is all zero, so the numbers of the feed are all that has to be put into it.
+#[tactic(auto, using(crate::proofs::Outcomes::openings, crate::proofs::Free::opened_slot))]
 pub(crate) fn open_slot(
     slot: &mut [u8; 256],
     nominal: u8,
@@ -24,21 +24,12 @@ pub(crate) fn open_slot(
     if slot[0] == 1 {
         return Err(Refused::AlreadyOpen);
     }
-    open_free(slot, nominal, rate, soc)
-}
-
-// A free slot is all zero, so the numbers of the opened feed are all that has to be put into it: refused 6, 7.
-fn open_free(slot: &mut [u8; 256], nominal: u8, rate: u8, soc: u32) -> Result<(), Refused>
-    requires { slot.old ≡ free_slot }
-    ensures { Lent (λ bank n after. Opening bank n nominal rate soc result after) slot.old slot.new }
-{
     if !sampling::served_nominal(nominal) {
         return Err(Refused::Nominal);
     }
     if !(sampling::served_rate(nominal, rate) | (rate == 0)) {
         return Err(Refused::Rate);
     }
-    let opened = Feed::open(nominal, rate, soc);
-    put_head(slot, opened.head);
+    put_head(slot, Feed::open(nominal, rate, soc).head);
     Ok(())
 }

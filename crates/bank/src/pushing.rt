@@ -11,6 +11,7 @@ use model::Sample;
 use refusals::Refused;
 
 // A sample goes to the feed of a slot, by the slot's state.
+#[tactic(auto, using(crate::proofs::Outcomes::shut_pushes))]
 pub(crate) fn push_slot(slot: &mut [u8; 256], s: Sample) -> Result<Option<Report>, Refused>
     ensures { Lent (λ bank n after. Pushing bank n s result after) slot.old slot.new }
 {
@@ -25,6 +26,7 @@ pub(crate) fn push_slot(slot: &mut [u8; 256], s: Sample) -> Result<Option<Report
 
 // A push, of an open slot. Stray bytes, flags over 1 and a place over 30 are refused here; the feed passes through as one value, which refuses its other
 // faults with 3, then 8. Where the sample is taken, what it changes of the feed goes back.
+#[tactic(auto, unfolding(crate::specs::Slot::head_in), using(crate::proofs::Through::open_pushes, crate::proofs::Through::left_taken))]
 fn push_open(slot: &mut [u8; 256], s: Sample) -> Result<Option<Report>, Refused>
     requires { state_in slot.old ≡ 1 }
     ensures { Lent (λ bank n after. Pushing bank n s result after) slot.old slot.new }

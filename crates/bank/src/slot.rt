@@ -138,7 +138,7 @@ pub(crate) fn put_back(s: &mut [u8; 256], x: Sample, next: Feed)
 
 // An open slot with its kept phases worked out from the samples that it holds (CR 6), or with those that it keeps where its numbers are faulty; any
 // other slot stays as it is.
-#[tactic(auto, unfolding(crate::specs::Slot::worked_out_in))]
+#[tactic(auto, using(crate::proofs::Angles::worked))]
 pub fn worked_out(slot: [u8; 256]) -> [u8; 256]
     ensures { result ≡ worked_out_in slot }
 {
@@ -146,7 +146,7 @@ pub fn worked_out(slot: [u8; 256]) -> [u8; 256]
         return slot;
     }
     let mut bytes = slot;
-    let feed = read_feed(&bytes);
+    let feed = read_feed(&slot);
     let next = feed.worked_out();
     put_kept(&mut bytes, next.kept);
     bytes
