@@ -3,7 +3,6 @@ use mathlib.Core.Path.{◌≡◌, refl, sym, ap, ◌∙◌}
 use mathlib.Core.Bool.{Bool, true, false, ◌&&◌, and-true, and_assoc}
 use mathlib.Core.List.{List, [], ◌∷◌, ◌++◌}
 use Prim.Native.Nat.{ℕ, zero, suc, ◌+◌}
-use native.Mathlib.Omega.{arith}
 use Rattle.std.specs.Prelude.{fold}
 use lib.Dec.{eqb}
 use lib.ListN.{length, take, drop, length-replicate, replicate-append-replicate}
@@ -12,12 +11,9 @@ use borrow.Author.Tests.{eqb-true}
 use Rattle.feed.specs.Places.{zeros}
 use Rattle.bank.specs.Damage.{blank}
 
-pub clash : true ≡ false → ⊥
-clash e = let z : ◌≡◌ {A = ℕ} 0 1 = cc in omega arith
-
 pub both_true : (t u : Bool) → (t && u) ≡ true → (t ≡ true) × (u ≡ true)
 both_true true u e = (refl, e)
-both_true false u e = absurd (clash (sym e))
+both_true false u e = absurd cc
 
 pub zeros_length : (n : ℕ) → length (zeros n) ≡ n
 unfolding zeros

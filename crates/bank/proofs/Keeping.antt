@@ -78,17 +78,11 @@ module _ (s : List ℕ) (k : Phases) (e : kept_part s ≡ kept_bytes k) where
 
   pub flags_within : flag_over s ≡ false
   unfolding flag_over kept_bytes
-  flags_within = rw (at 12 (lit< tt), at 13 (lit< tt), at 14 (lit< tt)) (none_over k.p.none k.q.none k.r.none)
+  flags_within = rw (at 12 (lit< tt), at 13 (lit< tt), at 14 (lit< tt), flag_within k.p.none, flag_within k.q.none, flag_within k.r.none)
     where
-      none_over : (a b c : Bool) → (ltb 1 (cond a 1 0) || ltb 1 (cond b 1 0) || ltb 1 (cond c 1 0)) ≡ false
-      none_over true true true = refl
-      none_over true true false = refl
-      none_over true false true = refl
-      none_over true false false = refl
-      none_over false true true = refl
-      none_over false true false = refl
-      none_over false false true = refl
-      none_over false false false = refl
+      flag_within : (b : Bool) → ltb 1 (cond b 1 0) ≡ false
+      flag_within true = refl
+      flag_within false = refl
 
 module _ (f : Feed) (whole : length f.places ≡ 186) where
   places_back : places_in (slot_of f) ≡ f.places

@@ -7,7 +7,7 @@ use native.Mathlib.Omega.{arith}
 use lib.ListN.{length, get_or, take, drop, take-append-drop}
 use lib.Seq.{drop-cons}
 use lib.Dec.{ltb, eqb}
-use borrow.Author.Tests.{ltb-false}
+use Rattle.std.proofs.lemmas.Bool.Decides.{nat_tests}
 use Rattle.bits.proofs.Bytes.{bytes_of_word, bytes_of_long}
 use Rattle.feed.specs.Places.{zeros}
 use Rattle.feed.proofs.Sound.{neither}
@@ -40,9 +40,7 @@ module _ (s : List ℕ) (size : length s ≡ 256) (bytes : Bytes s) (one : state
       ∙ sym (spelt 11 0 s (omega arith))
 
   flag_put : (b : ℕ) → ltb 1 b ≡ false → cond (eqb b 1) 1 0 ≡ b
-  flag_put zero e = refl
-  flag_put (suc zero) e = refl
-  flag_put (suc (suc b)) e = absurd (omega (arith, ltb-false 1 (suc (suc b)) e))
+  flag_put b e = grind (arith, nat_tests)
 
   kept_put : flag_over s ≡ false → kept_bytes (kept_in s) ≡ kept_part s
   unfolding kept_bytes kept_in kept_part flag_over
