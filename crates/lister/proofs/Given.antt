@@ -1,11 +1,12 @@
--- Calls in a row on what is left of a part read it byte by byte, with no byte left out. Assumes nothing.
-use Rattle.std.proofs.Common.{◌≡◌, ◌<◌, refl, sym, ap, ◌∙◌, List, [], ℕ, ◌+◌, ◌-◌, ◌≤◌, ◌++◌, arith, length, take, drop, length-drop, length-take-le, take-take, take-add, ap₂, append_assoc, subst, get_or-drop}
+-- Calls in a row read a part byte by byte, with no byte left out. Assumes nothing.
+use Rattle.std.proofs.Common.{◌≡◌, ◌<◌, refl, sym, ap, ◌∙◌, List, [], ℕ, ◌+◌, ◌-◌, ◌≤◌, ◌++◌, arith, length, get_or, take, drop, length-drop, length-take, ap₂, append_assoc, subst, get_or-drop, take-append-drop}
+use Rattle.std.proofs.lemmas.List.{take_all}
+use Rattle.std.proofs.Math.Seq.{drop-append_seam}
 use Rattle.phs.specs.declared.Reader.{Reader}
 use Rattle.phs.specs.declared.Moved.{Moved}
 use Rattle.phs.specs.Stream.{Left, stream, Reading}
 use Rattle.phs.specs.Cut.{Cut, call, Bytes}
-use Rattle.phs.proofs.Flow.{stream_append, call_stream, bytes_take}
-use Rattle.phs.proofs.Progress.{reads_within}
+use Rattle.phs.proofs.Flow.{stream_append, call_stream}
 use Rattle.lister.specs.Inside.{Flowed}
 
 -- before the first call nothing is read
@@ -37,22 +38,19 @@ joined {r} {q} {p} {bank} {x} {text} {between} {y} {more} {bank'} f g =
           (subst (λ (l : List ℕ). Cut r bank (x ++ (y ++ file)) l k) (sym (append_assoc text more after)) (f.cut (g.cut c)));
     }
 
--- what is left of a part from i on is made of bytes
-pub bytes_drop : (i : ℕ) (l : List ℕ) → Bytes l → Bytes (drop i l)
-bytes_drop i l b k = subst (λ (n : ℕ). n < 256) (sym (get_or-drop i l k 0)) (b (i + k))
+-- what is left of a part is made of bytes
+pub bytes_after : (done rest : List ℕ) {part : List ℕ} → done ++ rest ≡ part → Bytes part → Bytes rest
+bytes_after done rest {part} e b k =
+    subst (λ (n : ℕ). n < 256) (sym (get_or-drop (length done) part k 0) ∙ ap (λ (l : List ℕ). get_or (drop (length done) l) k 0) (sym e) ∙ ap (λ (l : List ℕ). get_or l k 0) (drop-append_seam done rest))
+    (b (length done + k))
 
--- what is left of a part from i on
-pub rest_length : (i : ℕ) (l : List ℕ) → i ≤ length l → length (take (length l - i) (drop i l)) ≡ length l - i
-rest_length i l h = length-take-le (length l - i) (drop i l) (omega (arith, length-drop i l))
+-- what a call leaves of the rest of a part
+pub rest_after : (done rest : List ℕ) {part : List ℕ} (n : ℕ) → done ++ rest ≡ part → (done ++ take n rest) ++ take (length rest - n) (drop n rest) ≡ part
+rest_after done rest n e =
+    ap (λ (l : List ℕ). (done ++ take n rest) ++ l) (take_all (length rest - n) (drop n rest) (omega (arith, length-drop n rest)))
+    ∙ append_assoc done (take n rest) (drop n rest)
+    ∙ ap (λ (l : List ℕ). done ++ l) (take-append-drop n rest)
+    ∙ e
 
--- one call more
-pub one_more : {r : Reader} {bank : List ℕ} (part : List ℕ) (i : ℕ) {text : List ℕ} {q : Reader} {between out : List ℕ} (m : Moved) {bank' out' : List ℕ} → i ≤ length part
-    → Bytes part
-    → Flowed r bank (take i part) text q between → Reading q between (take (length part - i) (drop i part)) out m bank' out'
-    → Flowed r bank (take (i + m.read) part) (text ++ take m.written out') m.reader bank'
-one_more {r} {bank} part i {text} m {bank'} {out'} h b f p =
-    let some = rest_length i part h in
-    let within = reads_within _ _ _ _ _ _ _ p in
-    let e : take i part ++ take m.read (take (length part - i) (drop i part)) ≡ take (i + m.read) part =
-    ap (λ (l : List ℕ). take i part ++ l) (take-take m.read (length part - i) (drop i part) (omega (arith, some, within))) ∙ sym (take-add i m.read part) in
-    subst (λ (l : List ℕ). Flowed r bank l (text ++ take m.written out') m.reader bank') e (joined f (called (bytes_take (length part - i) (drop i part) (bytes_drop i part b)) p))
+pub less_after : (rest : List ℕ) (n : ℕ) → 1 ≤ n → n ≤ length rest → length (take (length rest - n) (drop n rest)) < length rest
+less_after rest n some within = omega (arith, length-take (length rest - n) (drop n rest), length-drop n rest)

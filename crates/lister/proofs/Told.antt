@@ -1,6 +1,6 @@
 -- What is written is the listing of the file that the reader has left: at its end, and after a refusal, which is the last line. Assumes nothing.
-use Rattle.std.proofs.Common.{◌≡◌, refl, sym, ap, ◌∙◌, subst, List, [], ◌∷◌, ℕ, ◌<◌, ◌≤◌, ◌++◌, length, take, drop, arith, append-nil, one-add, le-ltb, Option, None, Some, IfSome, Result, Ok, Err, MatchResult, IfOk}
-use Rattle.std.proofs.Math.Seq.{take-length, drop-append_seam}
+use Rattle.std.proofs.Common.{◌≡◌, refl, sym, ap, ◌∙◌, subst, List, [], ◌∷◌, ℕ, ◌<◌, ◌≤◌, ◌++◌, length, take, arith, append-nil, one-add, le-ltb, Option, None, Some, IfSome, Result, Ok, Err, MatchResult, IfOk}
+use Rattle.std.proofs.Math.Seq.{take-length}
 use Rattle.std.proofs.Math.Nat.{sub-zero}
 use Rattle.std.specs.Io.KnownBytes.{Consumes, Appends, IsAtEnd}
 use Rattle.std.proofs.KnownBytes.{Appends-trans, Consumes-trans, Consumes-nil, Appends-nil, Consumes-whole}
@@ -14,7 +14,7 @@ use Rattle.phs.specs.Cut.{Bytes, Cut, none}
 use Rattle.phs.proofs.Whole.{every_cut}
 use Rattle.lister.specs.declared.Unlisted.{Unlisted}
 use Rattle.lister.specs.Inside.{Flowed, Comes, Gives, SoFar, Ends}
-use Rattle.lister.proofs.Given.{nothing_yet, called, joined, bytes_drop}
+use Rattle.lister.proofs.Given.{nothing_yet, called, joined, bytes_after}
 
 -- ---- from read to read
 
@@ -114,7 +114,7 @@ module _ {bank : List ℕ} {left left' held mid held' : Option (List ℕ)} {q : 
       by : (o : Option (List ℕ)) → Consumes (Some file) o s.file → Told file
       by None c = absurd c
       by (Some rest) c =
-          let bytes : Bytes rest = subst Bytes (ap (drop (length s.file)) c ∙ drop-append_seam s.file rest) (bytes_drop (length s.file) file b) in
+          let bytes : Bytes rest = bytes_after s.file rest (sym c) b in
           let flowed : Flowed started bank (s.file ++ rest) s.text q bank' =
           subst (λ (l : List ℕ). Flowed started bank (s.file ++ rest) l q bank') (append-nil s.text) (joined s.flowed (passes_over over_is bank' rest out room bytes)) in
           told (subst (λ (l : List ℕ). Flowed started bank l s.text q bank') (sym c) flowed)

@@ -39,7 +39,7 @@ pub fn list<R: Read, W: Write>(
     ensures tells { Tells bank.old (R.remaining from.old) (W.contents to.old) result
         bank.new (R.remaining from.new) (W.contents to.new) }
 {
-    if input.is_empty() | (out.len() < LINE) {
+    if input.is_empty() || out.len() < LINE {
         return Err(Unlisted::NoRoom);
     }
     let mut reader = phs::start();
@@ -75,12 +75,12 @@ fn give<W: Write>(
     ensures { Gives r bank.old part.now (W.contents to.old) (W.contents to.new) result bank.new }
 {
     let mut reader = r;
-    let mut i = 0;
-    while i < part.len() {
-        let m = phs::read_part(reader, bank, &part[i..], out);
+    let mut rest = part;
+    while !rest.is_empty() {
+        let m = phs::read_part(reader, bank, rest, out);
         to.write_all(&out[..m.written])?;
         reader = m.reader;
-        i += m.read;
+        rest = &rest[m.read..];
     }
     Ok(reader)
 }
