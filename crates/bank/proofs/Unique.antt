@@ -1,33 +1,25 @@
--- Each contract admits one outcome: two that equal the same are equal, and an answer is found again from what is said of it. Assumes nothing.
+-- Each contract admits one outcome: two that equal the same are equal, and two answers of which the same is said are one. Assumes nothing.
 use mathlib.Core.Path.{◌≡◌, refl, sym, ap, ◌∙◌}
 use mathlib.Core.List.{List}
 use Prim.Native.Nat.{ℕ}
 use Rattle.std.specs.Prelude.{Result, Ok, Err, Option}
 use Rattle.model.specs.declared.filter.Sample.{Sample}
 use Rattle.refusals.specs.declared.Refused.{Refused}
-use Rattle.refusals.specs.Refusals.{by_number}
-use Rattle.refusals.proofs.Numbers.{by_number_injective}
+use Rattle.refusals.proofs.Numbers.{number_of_injective}
 use Rattle.feed.specs.declared.Report.{Report}
-use Rattle.feed.specs.Answers.{Said, refused, done, taken, taken_with, said}
+use Rattle.feed.specs.Answers.{Said, said}
 use Rattle.feed.proofs.Unique.{said_injective}
 use Rattle.bank.specs.declared.damage.Damage.{Damage}
 use Rattle.bank.specs.Slot.{worked_out_in}
 use Rattle.bank.specs.Damage.{damage_of}
 use Rattle.bank.specs.Calls.{Outcome, settled, cleared, opened_at, pushed_at, closed_at, Clearing, Opening, Pushing, Closing}
 
--- the answer of which this is said, by the number of its refusal; only a push answers "taken"
-abbrev pub unsettled : Said → Result (Unit {0}) ℕ
-unsettled (refused number) = Err number
-unsettled done = Ok tt
-unsettled taken = Ok tt
-unsettled (taken_with soc frame re im d1 d2 mark re_peak im_peak deviation rocof) = Ok tt
-
-pub unsettled_settled : (a : Result (Unit {0}) Refused) → unsettled (settled a) ≡ by_number a
-unsettled_settled (Err r) = refl
-unsettled_settled (Ok u) = refl
-
+-- two answers of which the same is said are one
 settled_injective : (a b : Result (Unit {0}) Refused) → settled a ≡ settled b → a ≡ b
-settled_injective a b e = by_number_injective a b (sym (unsettled_settled a) ∙ ap unsettled e ∙ unsettled_settled b)
+settled_injective (Err r) (Err q) e = ap Err (number_of_injective r q cc)
+settled_injective (Err r) (Ok u) e = absurd cc
+settled_injective (Ok u) (Err q) e = absurd cc
+settled_injective (Ok u) (Ok w) e = refl
 
 module _ {A : Type 0} (say : A → Said) (injective : (a b : A) → say a ≡ say b → a ≡ b) where
   one_outcome : (o : Outcome) (r q : A) (s t : List ℕ) → record { answer = say r; bank = s } ≡ o → record { answer = say q; bank = t } ≡ o → (r ≡ q) × (s ≡ t)

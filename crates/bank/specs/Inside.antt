@@ -28,11 +28,11 @@ Lent promise before after = (bank : List ℕ) (slot : ℕ) → StandsIn bank slo
 abbrev pub with_part : ℕ → ℕ → List ℕ → List ℕ → List ℕ
 with_part n k part s = take n s ++ (part ++ drop k (drop n s))
 
--- what `at_slot` promises of a step: it was run on the slot, which stands in the bank, and its answer is given, with what it left in the slot's place;
--- or else the slot was not found, and nothing changes
+-- what `at_slot` promises of a step: a slot that is not found is refused, and nothing changes; else the step is run on the slot's bytes, its answer is
+-- given, and what it leaves stands in their place
 abbrev pub Steps : {F T : Type 0} → Once F (MutBor (List ℕ) × Unit {0}) (Result T Refused × (MutBor (List ℕ) × Unit {0})) → F → List ℕ → ℕ → Result T Refused → List ℕ → Type 0
 Steps g step bank slot r after =
-    ((number : Refused) × Finds bank slot (Err number) × (r ≡ Err number) × (after ≡ bank))
+    ((refusal : Refused) × Finds bank slot (Err refusal) × (r ≡ Err refusal) × (after ≡ bank))
     ⊎ ((s : List ℕ) × StandsIn bank slot (slot_at bank slot) × FnOnceReturnsAtMut g step (slot_at bank slot) r s × (after ≡ with_slot bank slot s))
 
 -- an open slot with what a push writes of a sample and the next feed: the numbers, the sample in the next place, and the kept phases

@@ -1,4 +1,4 @@
-// Document 01, "The bank", with CR 6: what stands where in a slot of 256 bytes.
+// Document 01, "The bank", with CR 6: where a slot of 256 bytes stands in its bank, and what stands where in it.
 ghost use Rattle.std.specs.Prelude.{◌≡◌, ◌+◌, ◌≤◌, ◌<◌, drop, ◌++◌};
 ghost use Rattle.bank.specs.Slot.{head_in, head_bytes, phase_in, kept_in, kept_bytes, feed_in, worked_out_in};
 ghost use Rattle.bank.specs.Inside.{Finds, Steps, with_part, written};
@@ -21,7 +21,7 @@ fn find(bank: &[u8], slot: u8) -> Result<usize, Refused>
     Ok(256 * usize::from(slot))
 }
 
-// A step on the 256 bytes of a slot, which are lent to it: refused 1, 2, and then nothing changes; else the step answers.
+// Runs a step on the 256 bytes of a slot, which are lent to it, and gives its answer: refused 1, 2, and then nothing changes.
 pub(crate) fn at_slot<T, F: FnOnce(&mut [u8; 256]) -> Result<T, Refused>>(
     bank: &mut [u8],
     slot: u8,
