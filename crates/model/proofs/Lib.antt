@@ -10,6 +10,6 @@ pub mod Summing
 pub mod Stepping
 pub mod Quadrant
 pub mod NoPhase
-pub mod Turns
 pub mod Marks
 pub mod Windows
+pub mod Signed

@@ -1,7 +1,6 @@
 -- The turn into the first quadrant, case by case, and the sizes of what is scaled and turned: the turn only exchanges and negates. Assumes nothing.
-use Rattle.std.proofs.Common.{◌≡◌, ℕ, ◌*◌, ◌^◌, ◌≤◌, Bool, true, false, cond, ◌&&◌, ℤ, pos, neg_ℤ, nat_abs, sym, ◌∙◌, subst, arith}
+use Rattle.std.proofs.Common.{ℕ, ◌*◌, ◌^◌, ◌≤◌, Bool, true, false, cond, ◌&&◌, ℤ, pos, neg_ℤ, nat_abs, sym, subst, arith}
 use lib.Signed.{lt_z, le_z}
-use Rattle.ints.proofs.Cases.{when_true, when_false}
 use Rattle.ints.proofs.Size.{size_neg, size_mul}
 use Rattle.model.specs.Angle.{turned, scaled, angle_of, zero_turn, quarter_turn, half_turn}
 use Rattle.model.specs.Bounds.{Sized, Small, cap}
@@ -9,13 +8,13 @@ use Rattle.model.specs.declared.angle.Turning.{Turning}
 use Rattle.model.specs.declared.filter.Phasor.{Phasor}
 
 -- the tests of the first three quadrants
-abbrev pub first : ℤ → ℤ → Bool
+abbrev first : ℤ → ℤ → Bool
 first re im = lt_z (pos 0) re && le_z (pos 0) im
 
-abbrev pub second : ℤ → ℤ → Bool
+abbrev second : ℤ → ℤ → Bool
 second re im = le_z re (pos 0) && lt_z (pos 0) im
 
-abbrev pub third : ℤ → ℤ → Bool
+abbrev third : ℤ → ℤ → Bool
 third re im = lt_z re (pos 0) && le_z im (pos 0)
 
 module _ (p : Phasor) where
@@ -34,22 +33,6 @@ module _ (p : Phasor) where
 
   abbrev chosen : Bool → Bool → Bool → Turning
   chosen t u w = cond t v₁ (cond u v₂ (cond w v₃ v₄))
-
-  pub turned_1 : first p.re p.im ≡ true → turned p ≡ v₁
-  unfolding turned
-  turned_1 e = when_true (first p.re p.im) _ _ e
-
-  pub turned_2 : first p.re p.im ≡ false → second p.re p.im ≡ true → turned p ≡ v₂
-  unfolding turned
-  turned_2 e f = when_false (first p.re p.im) _ _ e ∙ when_true (second p.re p.im) _ _ f
-
-  pub turned_3 : first p.re p.im ≡ false → second p.re p.im ≡ false → third p.re p.im ≡ true → turned p ≡ v₃
-  unfolding turned
-  turned_3 e f g = when_false (first p.re p.im) _ _ e ∙ when_false (second p.re p.im) _ _ f ∙ when_true (third p.re p.im) _ _ g
-
-  pub turned_4 : first p.re p.im ≡ false → second p.re p.im ≡ false → third p.re p.im ≡ false → turned p ≡ v₄
-  unfolding turned
-  turned_4 e f g = when_false (first p.re p.im) _ _ e ∙ when_false (second p.re p.im) _ _ f ∙ when_false (third p.re p.im) _ _ g
 
 -- the turn keeps the sizes
 pub turned_sized : (m : ℕ) (p : Phasor) → Sized m p.re p.im → Sized m (turned p).re (turned p).im

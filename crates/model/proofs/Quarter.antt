@@ -1,8 +1,7 @@
 -- Turning a phasor by a quarter turn adds exactly a quarter turn to its angle, where there is a phase; and there is one before exactly where there
 -- is one after. The turn into the first quadrant takes off a quarter more, and each step hands that on. Assumes nothing.
-use Rattle.std.proofs.Common.{◌≡◌, ℕ, zero, suc, ◌+◌, ◌-◌, ◌*◌, ◌%◌, ◌^◌, ◌≤◌, Bool, true, false, cond, ◌&&◌, T, ltb, leb, ℤ, pos, negsuc, ◌*ℤ◌, neg_ℤ, nat_abs, sym, refl, ap, ◌∙◌, subst, arith, lt-ltb, le-leb}
+use Rattle.std.proofs.Common.{◌≡◌, ℕ, zero, suc, ◌+◌, ◌-◌, ◌*◌, ◌%◌, ◌^◌, ◌≤◌, Bool, true, false, cond, ◌&&◌, T, ltb, ℤ, pos, ◌*ℤ◌, neg_ℤ, nat_abs, sym, refl, ap, ◌∙◌, subst, arith, lt-ltb}
 use mathlib.Core.Bool.{and_comm}
-use borrow.Author.Tests.{lt-leb}
 use lib.Signed.{lt_z}
 use Rattle.ints.proofs.Size.{size_neg, size_mul}
 use Rattle.ints.proofs.Ring.{negℤ-*ℤ}
@@ -12,6 +11,7 @@ use Rattle.model.specs.declared.angle.Angle.{Angle}
 use Rattle.model.specs.declared.angle.Phase.{Phase}
 use Rattle.model.specs.declared.angle.Turning.{Turning}
 use Rattle.model.specs.declared.filter.Phasor.{Phasor}
+use Rattle.model.proofs.Signed.{signed}
 use Rattle.model.proofs.NoPhase.{phase_some, none_is}
 
 -- (re, im) turned by a quarter turn
@@ -46,28 +46,10 @@ steps_later (suc n) v = ap (steps n) (step_later (23 - n) v) ∙ steps_later n (
 
 -- ---- the turn into the first quadrant takes off a quarter more
 
--- the tests of a sign, at each form of a number
-over : (b : ℕ) → ltb 0 (suc b) ≡ true
-over b = lt-ltb 0 (suc b) (omega arith)
-
-least : (b : ℕ) → leb 0 b ≡ true
-least b = le-leb 0 b (omega arith)
-
-not_under : (b : ℕ) → leb (suc b) 0 ≡ false
-not_under b = lt-leb (suc b) 0 (omega arith)
-
 turned_quarter : (re im : ℤ) → ((re ≡ pos 0) × (im ≡ pos 0) → ⊥)
     → turned (record { re = neg_ℤ im; im = re }) ≡ later (turned (record { re = re; im = im }))
 unfolding turned
-turned_quarter (pos zero) (pos zero) h = absurd (h (refl, refl))
-turned_quarter (pos zero) (pos (suc b)) h = simp (over, least, not_under)
-turned_quarter (pos zero) (negsuc b) h = simp (over, least, not_under)
-turned_quarter (pos (suc a)) (pos zero) h = simp (over, least, not_under)
-turned_quarter (pos (suc a)) (pos (suc b)) h = simp (over, least, not_under)
-turned_quarter (pos (suc a)) (negsuc b) h = simp (over, least, not_under)
-turned_quarter (negsuc a) (pos zero) h = refl
-turned_quarter (negsuc a) (pos (suc b)) h = simp (over, least, not_under)
-turned_quarter (negsuc a) (negsuc b) h = simp (over, least, not_under)
+turned_quarter re im h = grind (arith, signed)
 
 scaled_quarter : (p : Phasor) → scaled (quarter_on p) ≡ quarter_on (scaled p)
 unfolding scaled

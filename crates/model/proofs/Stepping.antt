@@ -1,6 +1,6 @@
 -- One step, by the sign of im; the steps that are left, one fewer; and how large both parts grow: from step to step by a floor at most, so that
 -- they stay within 2^60. Assumes nothing.
-use Rattle.std.proofs.Common.{◌≡◌, ℕ, zero, suc, ◌+◌, ◌-◌, ◌^◌, ◌<◌, ◌≤◌, Bool, true, false, cond, not, ℤ, pos, negsuc, ◌+ℤ◌, ◌-ℤ◌, nat_abs, sym, refl, ap, ◌∙◌, subst, zero-le, le_trans, le_refl, not-suc-le-zero, add-zero, add-suc, zero-lt-suc, arith, lit≤, pow_pos, to_z-of_z, w64, SFits, to_z, of_z, le-ltb, lt-ltb}
+use Rattle.std.proofs.Common.{◌≡◌, ℕ, zero, suc, ◌+◌, ◌-◌, ◌^◌, ◌<◌, ◌≤◌, Bool, true, false, cond, not, ℤ, pos, negsuc, ◌+ℤ◌, ◌-ℤ◌, nat_abs, sym, refl, ap, ◌∙◌, subst, zero-le, le_trans, le_refl, not-suc-le-zero, add-zero, add-suc, zero-lt-suc, arith, lit≤, pow_pos, le-ltb, lt-ltb}
 use lib.Signed.{lt_z}
 use Rattle.ints.specs.Whole.{floor_div}
 use Rattle.ints.proofs.Size.{size_floor, size_add, size_minus, mag_le, div_mono}
@@ -17,11 +17,6 @@ other_sign (pos (suc n)) h = lt-ltb 0 (suc n) (zero-lt-suc n) ∙ ap not (sym (l
 other_sign (negsuc n) h = refl
 
 module _ (i : ℕ) (v : Turning) where
-  -- where im is 0, nothing changes
-  pub step_still : v.im ≡ pos 0 → v ≡ step i v
-  unfolding step
-  step_still e = ap (λ (z : ℤ). cond (lt_z (pos 0) z) (above i v) (cond (lt_z z (pos 0)) (below i v) v)) (sym e)
-
   -- each part by a test: the step below 0, or the one above
   abbrev pub chosen : Bool → Turning
   chosen u = record {
@@ -38,11 +33,6 @@ module _ (i : ℕ) (v : Turning) where
       go : (u : Bool) → chosen u ≡ cond (not u) (above i v) (cond u (below i v) v)
       go true = refl
       go false = refl
-
--- what is read back of numbers that fit is what was handed on
-pub handed_on : (v : Turning) → SFits w64 v.re → SFits w64 v.im
-    → ◌≡◌ {A = Turning} (record { re = to_z w64 (of_z w64 v.re); im = to_z w64 (of_z w64 v.im); angle = v.angle }) v
-handed_on v f g = λ j. record { re = to_z-of_z f j; im = to_z-of_z g j; angle = v.angle }
 
 -- ---- the steps that are left
 pub steps_none : (left : ℕ) (v : Turning) → left ≡ 0 → steps left v ≡ v

@@ -19,15 +19,17 @@ entry_small [] h i = zero-le
 entry_small (z ∷ zs) h zero = leb→le (nat_abs z) 16384 (and_yes (leb (nat_abs z) 16384) (all_small zs) h).0
 entry_small (z ∷ zs) h (suc i) = entry_small zs (and_yes (leb (nat_abs z) 16384) (all_small zs) h).1 i
 
+-- two numbers are one where their difference is 0
+equal : (x y : ℤ) → T (none (x -ℤ y)) → x ≡ y
+equal x y t = sym (-ℤ-+ℤ_cancel x y) ∙ ap (λ (z : ℤ). z +ℤ y) (none_is (x -ℤ y) t) ∙ +ℤ_idl y
+
 -- ---- the mirror rule: entry n is entry 15 - n, or minus it
 module _ (sign : ℤ → ℤ) (table : List ℤ) where
   abbrev apart : ℕ → ℤ
   apart n = entry_at table n -ℤ sign (entry_at table (15 - n))
 
   mirrored : T (every 15 (λ n. none (apart n))) → (n : ℕ) → n < 15 → entry_at table n ≡ sign (entry_at table (15 - n))
-  mirrored t n h =
-      let other = sign (entry_at table (15 - n)) in
-      sym (-ℤ-+ℤ_cancel (entry_at table n) other) ∙ ap (λ (z : ℤ). z +ℤ other) (none_is (apart n) (each 15 (λ k. none (apart k)) t n h)) ∙ +ℤ_idl other
+  mirrored t n h = equal _ (sign (entry_at table (15 - n))) (each 15 (λ k. none (apart k)) t n h)
 
 -- cos n = cos(15 - n)
 pub cos_mirror : (n : ℕ) → n < 15 → entry_at cosines n ≡ entry_at cosines (15 - n)
@@ -64,25 +66,28 @@ cos_five_apart n = none_is _ (five_apart_all add_to_none cosines tt n)
 pub sin_five_apart : (n : ℕ) → entry_at sines n +ℤ entry_at sines (n + 10) +ℤ entry_at sines (n + 5) ≡ pos 0
 sin_five_apart n = none_is _ (five_apart_all add_to_none sines tt n)
 
--- ---- two turns of a table
+-- ---- the sums may read both tables
+pub cosines_tabled : Tabled cosines
+cosines_tabled = record { small = λ n. entry_small cosines tt (n % 15); level = cos_five_apart }
+
+pub sines_tabled : Tabled sines
+sines_tabled = record { small = λ n. entry_small sines tt (n % 15); level = sin_five_apart }
+
+-- ---- and two turns of a table
 module _ (table turns : List ℤ) (two : TwoTurns table turns) where
   pub turned : (n : ℕ) → entry_at turns n ≡ entry_at table n
   turned n =
       let e : n % 15 % 15 ≡ n % 15 = omega arith in
       two (n % 15) (omega arith) ∙ ap (λ (k : ℕ). get_or table k (pos 0)) e
 
-  tabled : T (all_small table) → ((n : ℕ) → entry_at table n +ℤ entry_at table (n + 10) +ℤ entry_at table (n + 5) ≡ pos 0) → Tabled turns
-  tabled small level = record {
-    turns = λ n h. two n h ∙ sym (turned n);
-    small = λ n. subst (λ (z : ℤ). nat_abs z ≤ 16384) (sym (turned n)) (entry_small table small (n % 15));
-    level = λ n. (λ i. turned n i +ℤ turned (n + 10) i +ℤ turned (n + 5) i) ∙ level n;
+  pub again : TwoTurns turns turns
+  again n h = two n h ∙ sym (turned n)
+
+  pub turns_tabled : Tabled table → Tabled turns
+  turns_tabled t = record {
+    small = λ n. rw (turned n) (t.small n);
+    level = λ n. rw (turned n, turned (n + 10), turned (n + 5)) (t.level n);
   }
-
-pub cosines_tabled : (turns : List ℤ) → TwoTurns cosines turns → Tabled turns
-cosines_tabled turns two = tabled cosines turns two tt cos_five_apart
-
-pub sines_tabled : (turns : List ℤ) → TwoTurns sines turns → Tabled turns
-sines_tabled turns two = tabled sines turns two tt sin_five_apart
 
 -- ---- the sizes of three entries five apart add to 32768 at most
 abbrev pub Trios : ℕ → List ℤ → Type 0

@@ -1,14 +1,15 @@
 -- A window's numbers as samples, and its samples under their indices: they are those of its places, whatever the index of the first, so that whole
 -- turns of the index change nothing. Assumes nothing.
-use Rattle.std.proofs.Common.{◌≡◌, ℕ, zero, suc, ◌+◌, ◌-◌, ◌*◌, ◌%◌, ◌<◌, List, length, get_or, drop, set, ℤ, pos, ◌*ℤ◌, sym, refl, ap, ◌∙◌, ne_of_lt, arith, length-set, get_or-drop, get_or-set_other, get_or-set_same}
+use Rattle.std.proofs.Common.{◌≡◌, ℕ, zero, suc, ◌+◌, ◌-◌, ◌*◌, ◌%◌, ◌<◌, List, length, get_or, drop, set, ℤ, pos, ◌*ℤ◌, sym, refl, ap, ◌∙◌, arith, length-set, get_or-drop}
+use Rattle.std.proofs.lemmas.Grind.{elements}
 use Rattle.model.specs.Filter.{weight, offset, phase_sum, term, positive, windowed, no_sample, lent_samples}
-use Rattle.model.specs.Report.{joined, differences, figures_at, figures_with}
+use Rattle.model.specs.Report.{joined, differences, figures_with}
 use Rattle.model.specs.declared.filter.Phasor.{Phasor}
 use Rattle.model.specs.declared.filter.Sample.{Sample}
 use Rattle.model.specs.declared.report.Phases.{Phases}
 use Rattle.model.specs.declared.report.Scale.{Scale}
 use Rattle.sampling.specs.declared.Nominal.{Nominal}
-use Rattle.model.proofs.Same.{positive_same, figures_same}
+use Rattle.model.proofs.Same.{positive_same}
 
 -- ---- the numbers as samples
 
@@ -44,39 +45,16 @@ module _ (w : List ℤ) (at : ℕ) (x y z : ℤ) where
 
   -- a number before them is as it was
   pub three_before : (k : ℕ) → k < at → get_or three_put k (pos 0) ≡ get_or w k (pos 0)
-  three_before k h =
-      get_or-set_other (set (set w at x) (at + 1) y) (at + 2) k z (pos 0) (ne_of_lt (omega arith))
-      ∙ get_or-set_other (set w at x) (at + 1) k y (pos 0) (ne_of_lt (omega arith))
-      ∙ get_or-set_other w at k x (pos 0) (ne_of_lt h)
+  three_before k h = grind (arith, elements)
 
   pub three_kept : (k : ℕ) → k + 2 < at → three_at three_put k ≡ three_at w k
   three_kept k h = λ i. record { a = three_before k (omega arith) i; b = three_before (k + 1) (omega arith) i; c = three_before (k + 2) h i }
 
   -- they are read where they are put
   pub three_there : at + 2 < length w → three_at three_put at ≡ record { a = x; b = y; c = z }
-  three_there h = λ i. record { a = first i; b = second i; c = third i }
-    where
-      first : get_or three_put at (pos 0) ≡ x
-      first =
-          get_or-set_other (set (set w at x) (at + 1) y) (at + 2) at z (pos 0) (ne_of_lt (omega arith))
-          ∙ get_or-set_other (set w at x) (at + 1) at y (pos 0) (ne_of_lt (omega arith))
-          ∙ get_or-set_same w at x (pos 0) (omega arith)
-
-      second : get_or three_put (at + 1) (pos 0) ≡ y
-      second =
-          get_or-set_other (set (set w at x) (at + 1) y) (at + 2) (at + 1) z (pos 0) (ne_of_lt (omega arith))
-          ∙ get_or-set_same (set w at x) (at + 1) y (pos 0) (omega (arith, length-set w at x))
-
-      third : get_or three_put (at + 2) (pos 0) ≡ z
-      third = get_or-set_same (set (set w at x) (at + 1) y) (at + 2) z (pos 0) (omega (arith, length-set w at x, length-set (set w at x) (at + 1) y))
+  three_there h = grind (arith, elements)
 
 -- ---- the samples under their indices
-
--- d before the centre, j on: the sample at place j
-at_place : (window : List Sample) (n d j : ℕ) → windowed window n (n + d + j - d) ≡ get_or window j no_sample
-at_place window n d j =
-    let e : n + d + j - d - n ≡ j = omega arith in
-    ap (λ (k : ℕ). get_or window k no_sample) e
 
 -- one term of the sum over the 29 samples from a place on, where the window's first has index n
 pub term_at : (table : List ℤ) (window : List Sample) (n from j : ℕ)
@@ -113,17 +91,6 @@ figures_placed window m n c e f scale nominal kept =
 module _ (window : List Sample) (index : ℕ) where
   abbrev rest : ℕ
   rest = index % 15
-
-  turn : (d : ℕ) → (rest + d) % 15 ≡ (index + d) % 15
-  turn d = omega arith
-
-  same_place : (d j : ℕ) → windowed window rest (rest + d + j - d) ≡ windowed window index (index + d + j - d)
-  same_place d j = at_place window rest d j ∙ sym (at_place window index d j)
-
-  pub figures_turn : (scale : Scale) (nominal : Nominal)
-      → figures_at scale nominal (windowed window rest) (rest + 15) ≡ figures_at scale nominal (windowed window index) (index + 15)
-  figures_turn =
-      figures_same (windowed window rest) (windowed window index) (rest + 15) (index + 15) (omega arith) (omega arith) (turn 15) (λ j h. same_place 15 j)
 
   -- at the centre of the 29 samples from a place on
   pub positive_turn : (from i : ℕ) → index + from + 14 ≡ i → positive (windowed window rest) (rest + from + 14) ≡ positive (windowed window index) i

@@ -9,9 +9,8 @@ use Rattle.model.specs.Filter.{weight, offset, entry_at, term, windowed}
 abbrev pub TwoTurns : List ℤ → List ℤ → Type 0
 TwoTurns table turns = (n : ℕ) → n < 30 → slice_index_or turns n (pos 0) ≡ entry_at table n
 
--- a table as the sums read it: its second turn is its first again, no entry is larger in size than 16384, and any three five apart add to 0
+-- a table as the sums read it: no entry is larger in size than 16384, and any three five apart add to 0
 pub record Tabled (table : List ℤ) : Type 0 where
-  pub turns : TwoTurns table table
   pub small : (n : ℕ) → unsigned_abs (entry_at table n) ≤ 16384
   pub level : (n : ℕ) → entry_at table n +ℤ entry_at table (n + 10) +ℤ entry_at table (n + 5) ≡ pos 0
 

@@ -1,6 +1,5 @@
 // Document 01, "The angle": the phase of a positive sequence, by 24 steps.
 ghost use Rattle.std.specs.Prelude.{◌≡◌, ◌-◌, ◌^◌, ◌<◌, ◌≤◌, if◌then◌else◌, nat_lt, unsigned_abs};
-ghost use Rattle.ints.specs.Whole.{floor_div};
 ghost use Rattle.model.specs.Angle.{angle_of, gains, loses, arctan, arctans, step, steps, turned, scaled, no_phase, phase_angle, phase_of};
 ghost use Rattle.model.specs.Bounds.{Sized, Small, cap};
 
@@ -33,14 +32,14 @@ impl Angle {
     fn more(self, by: u32) -> Angle
         ensures { result ≡ gains self by }
     {
-        Angle::of(std::num::wrapping_add_u32(self.parts, by))
+        Angle::of(self.parts.wrapping_add(by))
     }
 
     // The angle loses so many parts.
     fn fewer(self, by: u32) -> Angle
         ensures { result ≡ loses self by }
     {
-        Angle::of(std::num::wrapping_sub_u32(self.parts, by))
+        Angle::of(self.parts.wrapping_sub(by))
     }
 }
 
@@ -51,6 +50,20 @@ pub struct Phase {
     pub none: bool,
 }
 
+// A(i): the arctangent of 2^-i, rounded.
+const ARCTAN: [u32; 24] = [
+    536870912, 316933406, 167458907, 85004756, 42667331, 21354465, 10679838, 5340245, 2670163,
+    1335087, 667544, 333772, 166886, 83443, 41722, 20861, 10430, 5215, 2608, 1304, 652, 326, 163,
+    81,
+];
+
+// The first of two values where the test holds, else the second.
+fn either<T: Copy>(test: bool, x: T, y: T) -> T
+    ensures { result ≡ (if test then x else y) }
+{
+    if test { x } else { y }
+}
+
 // What a step leaves: the two parts, and the angle so far.
 #[derive(Clone, Copy)]
 struct Turning {
@@ -59,83 +72,56 @@ struct Turning {
     angle: Angle,
 }
 
-// A(i): the arctangent of 2^-i, rounded.
-const ARCTAN: [u32; 24] = [
-    536870912, 316933406, 167458907, 85004756, 42667331, 21354465, 10679838, 5340245, 2670163,
-    1335087, 667544, 333772, 166886, 83443, 41722, 20861, 10430, 5215, 2608, 1304, 652, 326, 163,
-    81,
-];
-
-// floor(z / 2^i), towards minus infinity, which is what `>>` is.
-fn floor_shift(z: i64, i: usize) -> i64
-    requires { i < 24 }
-    ensures { result ≡ floor_div z (2 ^ i) }
-{
-    z >> i
-}
-
-// The first of two numbers where the test holds, else the second.
-fn either(test: bool, x: i64, y: i64) -> i64
-    ensures { result ≡ (if test then x else y) }
-{
-    if test { x } else { y }
-}
-
-// The first of two angles where the test holds, else the second.
-fn either_angle(test: bool, x: Angle, y: Angle) -> Angle
-    ensures { result ≡ (if test then x else y) }
-{
-    if test { x } else { y }
-}
-
-// Step i, on what the step before it left, where a is A(i).
-fn one_step(re: i64, im: i64, angle: Angle, i: usize, a: u32) -> Turning
-    requires step_number { (i < 24) × (a ≡ arctan i) }
-    requires sized { Sized (2 ^ 60) re im }
-    ensures { result ≡ step i (record { re = re; im = im; angle = angle }) }
-{
-    if im == 0 {
-        return Turning { re, im, angle };
-    }
-    let below = im < 0;
-    let re_part = floor_shift(re, i);
-    let im_part = floor_shift(im, i);
-    Turning {
-        re: either(below, re - im_part, re + im_part),
-        im: either(below, im + re_part, im - re_part),
-        angle: either_angle(below, angle.fewer(a), angle.more(a)),
+impl Turning {
+    // Step i, where a is A(i); `>>` is the floor of a quotient, towards minus infinity.
+    #[tactic(auto, using(crate::proofs::Signed::signed), unfolding(crate::specs::Angle::step))]
+    fn one_step(self, i: usize, a: u32) -> Turning
+        requires step_number { (i < 24) × (a ≡ arctan i) }
+        requires sized { Sized (2 ^ 60) self.re self.im }
+        ensures { result ≡ step i self }
+    {
+        if self.im == 0 {
+            return self;
+        }
+        let below = self.im < 0;
+        let re_part = self.re >> i;
+        let im_part = self.im >> i;
+        Turning {
+            re: either(below, self.re - im_part, self.re + im_part),
+            im: either(below, self.im + re_part, self.im - re_part),
+            angle: either(below, self.angle.fewer(a), self.angle.more(a)),
+        }
     }
 }
 
-// The angle's parts after the steps that are left, from 24 down to none.
-fn steps_left(left: usize, re: i64, im: i64, angle: Angle, table: &[u32; 24]) -> u32
+// The angle after the steps that are left, from 24 down to none. What a step left is handed on in parts: so the recursion runs as a loop.
+fn steps_left(left: usize, re: i64, im: i64, angle: Angle) -> Angle
     requires at_most_24 { left ≤ 24 }
     requires sized { Sized (cap (24 - left)) re im }
-    requires table_is { table.now ≡ arctans }
-    ensures { result ≡ (steps left (record { re = re; im = im; angle = angle })).angle.parts }
+    ensures { result ≡ (steps left (record { re = re; im = im; angle = angle })).angle }
 {
     if left == 0 {
-        angle.parts
-    } else {
-        let i = 24 - left;
-        let v = one_step(re, im, angle, i, table[i]);
-        steps_left(left - 1, v.re, v.im, v.angle, table)
+        return angle;
     }
+    let i = 24 - left;
+    let v = Turning { re, im, angle }.one_step(i, ARCTAN[i]);
+    steps_left(left - 1, v.re, v.im, v.angle)
 }
 
 // Both parts times 65536.
+#[tactic(auto, using(crate::proofs::Signed::signed), unfolding(crate::specs::Angle::scaled))]
 fn times_65536(p: Phasor) -> Phasor
     requires { Small p }
     ensures { result ≡ scaled p }
 {
-    let re = p.re;
-    let im = p.im;
-    let x = re * 65536;
-    let y = im * 65536;
-    Phasor { re: x, im: y }
+    Phasor {
+        re: p.re * 65536,
+        im: p.im * 65536,
+    }
 }
 
 // Turned into the first quadrant, with the base that the turn takes off.
+#[tactic(auto, using(crate::proofs::Signed::signed), unfolding(crate::specs::Angle::turned))]
 fn first_quadrant(p: Phasor) -> Turning
     requires { Sized (2 ^ 60) p.re p.im }
     ensures { result ≡ turned p }
@@ -143,30 +129,29 @@ fn first_quadrant(p: Phasor) -> Turning
     let re = p.re;
     let im = p.im;
     if (re > 0) & (im >= 0) {
-        return Turning {
+        Turning {
             re,
             im,
             angle: Angle::ZERO,
-        };
-    }
-    if (re <= 0) & (im > 0) {
-        return Turning {
+        }
+    } else if (re <= 0) & (im > 0) {
+        Turning {
             re: im,
             im: -re,
             angle: Angle::QUARTER,
-        };
-    }
-    if (re < 0) & (im <= 0) {
-        return Turning {
+        }
+    } else if (re < 0) & (im <= 0) {
+        Turning {
             re: -re,
             im: -im,
             angle: Angle::HALF,
-        };
-    }
-    Turning {
-        re: -im,
-        im: re,
-        angle: Angle::HALF.more(Angle::QUARTER.parts),
+        }
+    } else {
+        Turning {
+            re: -im,
+            im: re,
+            angle: Angle::HALF.more(Angle::QUARTER.parts),
+        }
     }
 }
 
@@ -174,11 +159,11 @@ fn first_quadrant(p: Phasor) -> Turning
 fn is_below(z: i64, limit: u32) -> bool
     ensures { result ≡ nat_lt (unsigned_abs z) limit }
 {
-    let most = limit as i64;
-    (-most < z) & (z < most)
+    z.unsigned_abs() < u64::from(limit)
 }
 
 // Whether |re| and |im| are both below the limit: then there is no phase.
+#[tactic(auto, using(crate::proofs::Signed::signed), unfolding(crate::specs::Angle::no_phase))]
 fn has_no_phase(p: Phasor, limit: u32) -> bool
     ensures { result ≡ no_phase limit p }
 {
@@ -191,11 +176,11 @@ fn phase_angle(p: Phasor) -> Angle
     ensures { result ≡ phase_angle p }
 {
     let v = first_quadrant(times_65536(p));
-    let arctans = ARCTAN;
-    Angle::of(steps_left(24, v.re, v.im, v.angle, &arctans))
+    steps_left(24, v.re, v.im, v.angle)
 }
 
 // The phase of a positive sequence; there is none where both parts are below the limit.
+#[tactic(auto, unfolding(crate::specs::Angle::phase_of))]
 pub(crate) fn phase_of(p: Phasor, limit: u32) -> Phase
     requires { Small p }
     ensures { result ≡ phase_of limit p }

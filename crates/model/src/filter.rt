@@ -50,34 +50,65 @@ fn sample_in(window: &[i16; 93], i: usize) -> Sample
 }
 
 // The weight of term j, which is at offset k = j - 14: 15 - |k|.
+#[tactic(auto, using(crate::proofs::Signed::signed), unfolding(crate::specs::Filter::weight, crate::specs::Filter::offset))]
 fn weight_of(j: usize) -> usize
     requires { j < 29 }
     ensures { result ≡ weight (offset j) }
 {
-    if j < 15 { j + 1 } else { 29 - j }
+    15 - j.abs_diff(14)
 }
 
-// Ten entries on, which is five back: 120 degrees.
-fn ten_on(n: usize) -> usize
-    requires { n < 15 }
-    ensures { result ≡ (n + 10) % 15 }
-{
-    if n < 5 { n + 10 } else { n - 5 }
+// Two turns of a table that the sums may read: fifteen entries in turn, from any one of the first fifteen on, are then a run.
+#[derive(Drop)]
+struct Turns {
+    entries: [i32; 30],
+    ghost again: { TwoTurns entries entries },
+    ghost tabled: { Tabled entries },
 }
 
-// Two turns of a table: fifteen entries in turn, from any one of the first fifteen on, are then a run.
-fn two_turns(table: [i32; 15]) -> [i32; 30]
-    ensures { TwoTurns table result }
-{
-    let mut turns = [0i32; 30];
-    let mut n = 0;
-    while n < 15 {
-        let e = table[n];
-        turns[n] = e;
-        turns[n + 15] = e;
-        n += 1;
+impl Turns {
+    // Two turns of a table.
+    fn of(table: [i32; 15]) -> Turns
+        requires { Tabled table }
+        ensures { TwoTurns table result.entries }
+    {
+        let mut entries = [0i32; 30];
+        for n in 0..30 {
+            entries[n] = table[n % 15];
+        }
+        Turns { entries }
     }
-    turns
+
+    // A number times entry n.
+    fn times_entry(&self, x: i32, n: usize) -> i32
+        requires within { (n < 30) × (unsigned_abs x ≤ 65536) }
+        ensures is { result ≡ x *ℤ entry_at self.now.entries n }
+        ensures small { unsigned_abs result ≤ 1073741824 }
+    {
+        x * self.entries[n]
+    }
+
+    // a·cos n + b·cos(n-5) + c·cos(n-10) of a sample, or the same with sin, where m is n - 5 in either turn. The three entries add to 0, so c needs
+    // none of its own: it counts against a and against b.
+    fn phase_sum(&self, s: Sample, n: usize, m: usize) -> i32
+        requires entries { (n < 30) × (m < 30) × (m % 15 ≡ (n + 10) % 15) }
+        ensures is { result ≡ phase_sum self.now.entries s n }
+        ensures small { unsigned_abs result ≤ 1610612736 }
+    {
+        let a = self.times_entry(minus(s.a, s.c), n);
+        let b = self.times_entry(minus(s.b, s.c), m);
+        a + b
+    }
+
+    // Term j of a sum: the weight times the phase sum of its sample, which meets entry n; m is n - 5 in either turn.
+    fn term_of(&self, s: Sample, n: usize, m: usize, j: usize) -> i64
+        requires entries { (n < 30) × (m < 30) × (m % 15 ≡ (n + 10) % 15) }
+        requires term { j < 29 }
+        ensures is { result ≡ pos (weight (offset j)) *ℤ phase_sum self.now.entries s n }
+        ensures small { unsigned_abs result ≤ weight (offset j) * 1610612736 }
+    {
+        weight_of(j) as i64 * i64::from(self.phase_sum(s, n, m))
+    }
 }
 
 // x minus y, in 32 bits.
@@ -85,102 +116,59 @@ fn minus(x: i16, y: i16) -> i32
     ensures is { result ≡ x -ℤ y }
     ensures small { unsigned_abs result ≤ 65536 }
 {
-    let from = x as i32;
-    let off = y as i32;
-    from - off
+    i32::from(x) - i32::from(y)
 }
 
-// A number times entry n of a table.
-fn times_entry(x: i32, table: &[i32; 30], n: usize) -> i32
-    requires within { (n < 30) × (unsigned_abs x ≤ 65536) }
-    requires tabled { Tabled table.now }
-    ensures is { result ≡ x *ℤ entry_at table.now n }
-    ensures small { unsigned_abs result ≤ 1073741824 }
-{
-    let e = table[n];
-    x * e
+// Both tables that the sums read, each in two turns.
+#[derive(Drop)]
+struct Tables {
+    cosines: Turns,
+    sines: Turns,
 }
 
-// a·cos n + b·cos(n-5) + c·cos(n-10) of a sample, or the same with sin, where m is n - 5 in either turn. The three entries add to 0, so c needs none
-// of its own: it counts against a and against b.
-fn phase_sum(s: Sample, table: &[i32; 30], n: usize, m: usize) -> i32
-    requires entries { (n < 30) × (m < 30) × (m % 15 ≡ (n + 10) % 15) }
-    requires tabled { Tabled table.now }
-    ensures is { result ≡ phase_sum table.now s n }
-    ensures small { unsigned_abs result ≤ 1610612736 }
-{
-    let a = times_entry(minus(s.a, s.c), table, n);
-    let b = times_entry(minus(s.b, s.c), table, m);
-    a + b
-}
-
-// Term j of a sum: the weight times the phase sum of its sample, which meets entry n; m is n - 5 in either turn.
-fn term_of(s: Sample, table: &[i32; 30], n: usize, m: usize, j: usize) -> i64
-    requires entries { (n < 30) × (m < 30) × (m % 15 ≡ (n + 10) % 15) }
-    requires term { j < 29 }
-    requires tabled { Tabled table.now }
-    ensures is { result ≡ pos (weight (offset j)) *ℤ phase_sum table.now s n }
-    ensures small { unsigned_abs result ≤ weight (offset j) * 1610612736 }
-{
-    let g = weight_of(j) as i64;
-    let x = phase_sum(s, table, n, m) as i64;
-    g * x
-}
-
-// Both sums of the first terms with `count` more, of the 29 samples of a window from a place on, where n is the index of the window's first sample
-// mod 15. The first of those added is term 0 or term 15, which meet the same entry.
-fn with_terms(
-    sums: Sums,
-    first: usize,
-    count: usize,
-    window: &[i16; 93],
-    n: usize,
-    from: usize,
-    cosines: &[i32; 30],
-    sines: &[i32; 30],
-) -> Sums
-    requires run { (n < 15) × (from ≤ 2) × (first % 15 ≡ 0) × (count ≤ 15) × (first + count ≤ 29) }
-    requires tabled { Tabled cosines.now × Tabled sines.now }
-    requires cosine_first { FirstTerms cosines.now (lent_samples 31 window.now) n from first sums.cosine }
-    requires sine_first { FirstTerms sines.now (lent_samples 31 window.now) n from first sums.sine }
-    ensures cosine { FirstTerms cosines.now (lent_samples 31 window.now) n from (first + count) result.cosine }
-    ensures sine { FirstTerms sines.now (lent_samples 31 window.now) n from (first + count) result.sine }
-{
-    let entry = (n + from) % 15;
-    let back = ten_on(entry);
-    let mut cosine = sums.cosine;
-    let mut sine = sums.sine;
-    let mut i = 0;
-    while i < count {
-        let j = first + i;
-        let a = entry + i;
-        let b = back + i;
-        let s = sample_in(window, from + j);
-        cosine += term_of(s, cosines, a, b, j);
-        sine += term_of(s, sines, a, b, j);
-        i += 1;
+impl Tables {
+    // Both sums of the first terms with `count` more, of the 29 samples of a window from a place on, where n is the index of the window's first
+    // sample mod 15. The first of those added is term 0 or term 15, which meet the same entry.
+    fn with_terms(
+        &self,
+        sums: Sums,
+        first: usize,
+        count: usize,
+        window: &[i16; 93],
+        n: usize,
+        from: usize,
+    ) -> Sums
+        requires run { (n < 15) × (from ≤ 2) × (first % 15 ≡ 0) × (count ≤ 15) × (first + count ≤ 29) }
+        requires cosine_first { FirstTerms self.now.cosines.entries (lent_samples 31 window.now) n from first sums.cosine }
+        requires sine_first { FirstTerms self.now.sines.entries (lent_samples 31 window.now) n from first sums.sine }
+        ensures cosine { FirstTerms self.now.cosines.entries (lent_samples 31 window.now) n from (first + count) result.cosine }
+        ensures sine { FirstTerms self.now.sines.entries (lent_samples 31 window.now) n from (first + count) result.sine }
+    {
+        let entry = (n + from) % 15;
+        let back = (entry + 10) % 15;
+        let mut cosine = sums.cosine;
+        let mut sine = sums.sine;
+        for i in 0..count {
+            let j = first + i;
+            let s = sample_in(window, from + j);
+            cosine += self.cosines.term_of(s, entry + i, back + i, j);
+            sine += self.sines.term_of(s, entry + i, back + i, j);
+        }
+        Sums { cosine, sine }
     }
-    Sums { cosine, sine }
-}
 
-// The weighted sums at the centre of the 29 samples of a window from a place on, where n is the index of the window's first sample mod 15: fifteen
-// terms with the rising weights, then fourteen with the falling ones.
-fn weighted_sums(
-    window: &[i16; 93],
-    n: usize,
-    from: usize,
-    cosines: &[i32; 30],
-    sines: &[i32; 30],
-) -> Sums
-    requires placed { (n < 15) × (from ≤ 2) }
-    requires tabled { Tabled cosines.now × Tabled sines.now }
-    ensures cosine { result.cosine ≡ weighted cosines.now (windowed (lent_samples 31 window.now) n) (n + from + 14) }
-    ensures sine { result.sine ≡ weighted sines.now (windowed (lent_samples 31 window.now) n) (n + from + 14) }
-    ensures small { Sized 362387865600 result.cosine result.sine }
-{
-    let none = Sums { cosine: 0, sine: 0 };
-    let rising = with_terms(none, 0, 15, window, n, from, cosines, sines);
-    with_terms(rising, 15, 14, window, n, from, cosines, sines)
+    // The weighted sums at the centre of the 29 samples of a window from a place on, where n is the index of the window's first sample mod 15:
+    // fifteen terms with the rising weights, then fourteen with the falling ones.
+    fn weighted_sums(&self, window: &[i16; 93], n: usize, from: usize) -> Sums
+        requires placed { (n < 15) × (from ≤ 2) }
+        ensures cosine { result.cosine ≡ weighted self.now.cosines.entries (windowed (lent_samples 31 window.now) n) (n + from + 14) }
+        ensures sine { result.sine ≡ weighted self.now.sines.entries (windowed (lent_samples 31 window.now) n) (n + from + 14) }
+        ensures small { Sized 362387865600 result.cosine result.sine }
+    {
+        let none = Sums { cosine: 0, sine: 0 };
+        let rising = self.with_terms(none, 0, 15, window, n, from);
+        self.with_terms(rising, 15, 14, window, n, from)
+    }
 }
 
 // The positive sequence at the centre of the 29 samples of a window from a place on, where n is the index of the window's first sample mod 15.
@@ -189,12 +177,13 @@ pub(crate) fn positive_sequence(window: &[i16; 93], n: usize, from: usize) -> Ph
     ensures is { result ≡ positive (windowed (lent_samples 31 window.now) n) (n + from + 14) }
     ensures small { Small result }
 {
-    let cosines = two_turns(COS);
-    let sines = two_turns(SIN);
-    let sums = weighted_sums(window, n, from, &cosines, &sines);
-    let im = -sums.sine;
+    let tables = Tables {
+        cosines: Turns::of(COS),
+        sines: Turns::of(SIN),
+    };
+    let sums = tables.weighted_sums(window, n, from);
     Phasor {
         re: sums.cosine,
-        im,
+        im: -sums.sine,
     }
 }

@@ -1,7 +1,7 @@
 // Document 01, "The report": the figures at a centre, joined from the phases at it and beside it.
-ghost use Rattle.std.specs.Prelude.{◌≡◌, ◌+◌, ◌^◌, ◌<◌, ◌≤◌, unsigned_abs};
-ghost use Rattle.model.specs.Report.{difference, second_difference, over, deviation_of, rocof_of, differences, joined, three_phase, phase_at, figures_at, Measuring, NewestPhase, ThreePhases, MeasuringKept};
-ghost use Rattle.model.specs.Filter.{windowed, lent_samples};
+ghost use Rattle.std.specs.Prelude.{◌≡◌, ◌+◌, ◌^◌, ◌≤◌, pos, ◌*ℤ◌, unsigned_abs};
+ghost use Rattle.model.specs.Report.{difference, second_difference, over, differences, joined, three_phase, phase_at, Measuring, NewestPhase, ThreePhases, MeasuringKept};
+ghost use Rattle.model.specs.Filter.{positive, windowed, lent_samples};
 ghost use Rattle.model.specs.Bounds.{Small};
 
 use crate::angle::{Angle, Phase, phase_of};
@@ -59,23 +59,23 @@ struct Differences {
 fn difference(p: Angle, r: Angle) -> u32
     ensures { result ≡ difference p r }
 {
-    std::num::wrapping_sub_u32(r.parts, p.parts)
+    r.parts.wrapping_sub(p.parts)
 }
 
 // r - 2q + p, modulo 2^32, as (r - q) - (q - p).
+#[tactic(auto, unfolding(crate::specs::Report::second_difference))]
 fn second_difference(p: Angle, q: Angle, r: Angle) -> u32
     ensures { result ≡ second_difference p q r }
 {
-    let later = difference(q, r);
-    let sooner = difference(p, q);
-    std::num::wrapping_sub_u32(later, sooner)
+    difference(q, r).wrapping_sub(difference(p, q))
 }
 
 // d1 and d2 of the phases at i-1, i and i+1; both 0 and the mark 1 where one of them is none.
-fn differences_of(p: Phase, q: Phase, r: Phase) -> Differences
-    ensures { result ≡ differences p q r }
+#[tactic(auto, using(crate::proofs::Signed::signed), unfolding(crate::specs::Report::differences))]
+fn differences_of(k: Phases) -> Differences
+    ensures { result ≡ differences k.p k.q k.r }
 {
-    if p.none | q.none | r.none {
+    if k.p.none | k.q.none | k.r.none {
         return Differences {
             d1: 0,
             d2: 0,
@@ -83,95 +83,80 @@ fn differences_of(p: Phase, q: Phase, r: Phase) -> Differences
         };
     }
     Differences {
-        d1: signed32(difference(p.angle, r.angle)),
-        d2: signed32(second_difference(p.angle, q.angle, r.angle)),
+        d1: signed32(difference(k.p.angle, k.r.angle)),
+        d2: signed32(second_difference(k.p.angle, k.q.angle, k.r.angle)),
         mark: 0,
     }
 }
 
 // A whole number made a float, which loses nothing, and divided once.
+#[tactic(auto, using(crate::proofs::Signed::signed), unfolding(crate::specs::Report::over))]
 fn divided(n: i64, by: u64) -> f64
     requires { (unsigned_abs n ≤ 2 ^ 53) × (by ≤ 2 ^ 53) }
     ensures { result ≡ over n by }
 {
-    let x = n as f64;
-    let y = by as f64;
-    x / y
+    n as f64 / by as f64
 }
 
-// The frequency deviation in Hz: d1 times half the sampling, a whole number, divided once.
-fn deviation_of(d1: i32, nominal: Nominal) -> f64
-    ensures { result ≡ deviation_of nominal d1 }
+// A number of 2^32nds of a turn, times a whole number, as turns: the product is a whole number, divided once.
+fn turns(d: i32, by: u32) -> f64
+    requires { by ≤ 810000 }
+    ensures { result ≡ over (d *ℤ pos by) 4294967296 }
 {
-    let half = (nominal.sampling() / 2) as i64;
-    let d = d1 as i64;
-    let n = d * half;
-    divided(n, 4294967296)
+    divided(i64::from(d) * i64::from(by), 4294967296)
 }
 
-// The rate of change of frequency in Hz/s: d2 times the square of the sampling, a whole number, divided once.
-fn rocof_of(d2: i32, nominal: Nominal) -> f64
-    ensures { result ≡ rocof_of nominal d2 }
-{
-    let sampling = nominal.sampling();
-    let square = (sampling * sampling) as i64;
-    let d = d2 as i64;
-    let n = d * square;
-    divided(n, 4294967296)
-}
-
-// The figures of a positive sequence and its differences.
-fn join(p: Phasor, d: Differences, nominal: Nominal, scale: Scale) -> Figures
+// The figures of a positive sequence and its differences: the frequency deviation is d1 times half the sampling, and ROCOF d2 times its square.
+#[tactic(auto, using(crate::proofs::Signed::signed), unfolding(crate::specs::Report::joined))]
+fn join(p: Phasor, d: Differences, nominal: Nominal) -> Figures
     requires { Small p }
-    ensures { result ≡ joined scale nominal p d }
+    ensures { result ≡ joined three_phase nominal p d }
 {
-    let divisor = scale.divisor as u64;
-    let re_peak = divided(p.re, divisor);
-    let im_peak = divided(p.im, divisor);
-    let deviation = deviation_of(d.d1, nominal);
-    let rocof = rocof_of(d.d2, nominal);
+    let divisor = u64::from(THREE_PHASE.divisor);
+    let sampling = nominal.sampling();
     Figures {
         re: p.re,
         im: p.im,
         d1: d.d1,
         d2: d.d2,
         mark: d.mark,
-        re_peak,
-        im_peak,
-        deviation,
-        rocof,
+        re_peak: divided(p.re, divisor),
+        im_peak: divided(p.im, divisor),
+        deviation: turns(d.d1, sampling / 2),
+        rocof: turns(d.d2, sampling * sampling),
     }
 }
 
-// The figures at the centre of a window, the sixteenth sample, where n is the first one's index mod 15.
-fn measure_by(window: &[i16; 93], n: usize, nominal: Nominal, scale: Scale) -> Figures
-    requires { n < 15 }
-    ensures { result ≡ figures_at scale nominal (windowed (lent_samples 31 window.now) n) (n + 15) }
+// The positive sequence at the centre of the 29 samples of a window from a place on; the window's first sample has this index.
+fn positive_from(window: &[i16; 93], index: usize, from: usize) -> Phasor
+    requires { from ≤ 2 }
+    ensures is { result ≡ positive (windowed (lent_samples 31 window.now) index) (index + from + 14) }
+    ensures small { Small result }
 {
-    let before = positive_sequence(window, n, 0);
-    let centre = positive_sequence(window, n, 1);
-    let after = positive_sequence(window, n, 2);
-    let limit = scale.limit;
-    let p = phase_of(before, limit);
-    let q = phase_of(centre, limit);
-    let r = phase_of(after, limit);
-    join(centre, differences_of(p, q, r), nominal, scale)
+    positive_sequence(window, index % 15, from)
 }
 
-// The figures at the centre of 31 lent samples, of which the first has this index; a, b and c of each stand in turn.
-pub fn measure(window: &[i16; 93], index: usize, nominal: Nominal) -> Figures
-    ensures { Measuring (lent_samples 31 window.now) index nominal result }
-{
-    measure_by(window, index % 15, nominal, THREE_PHASE)
-}
-
-// The phase at the centre of the 29 samples of a window from a place on; the window's first sample has this index.
+// The phase there.
+#[tactic(auto, unfolding(crate::specs::Report::phase_at))]
 fn phase_from(window: &[i16; 93], index: usize, from: usize) -> Phase
     requires { from ≤ 2 }
     ensures { result ≡ phase_at three_phase (windowed (lent_samples 31 window.now) index) (index + from + 14) }
 {
-    let scale = THREE_PHASE;
-    phase_of(positive_sequence(window, index % 15, from), scale.limit)
+    phase_of(positive_from(window, index, from), THREE_PHASE.limit)
+}
+
+// The figures at the centre of 31 lent samples, of which the first has this index; a, b and c of each stand in turn.
+#[tactic(auto, unfolding(crate::specs::Report::figures_at, crate::specs::Report::phase_at))]
+pub fn measure(window: &[i16; 93], index: usize, nominal: Nominal) -> Figures
+    ensures { Measuring (lent_samples 31 window.now) index nominal result }
+{
+    let centre = positive_from(window, index, 1);
+    let phases = Phases {
+        p: phase_from(window, index, 0),
+        q: phase_of(centre, THREE_PHASE.limit),
+        r: phase_from(window, index, 2),
+    };
+    join(centre, differences_of(phases), nominal)
 }
 
 // The phase at the newest centre of 31 lent samples, which stands 14 behind the newest (CR 6). The first sample has this index.
@@ -192,14 +177,13 @@ pub fn phases_of(window: &[i16; 93], index: usize) -> Phases
 }
 
 // The figures at the centre of 31 lent samples, with p, q and r from the phases that are kept (CR 6). The first sample has this index.
+#[tactic(auto, unfolding(crate::specs::Report::figures_with))]
 pub fn measure_kept(window: &[i16; 93], index: usize, kept: Phases, nominal: Nominal) -> Figures
     ensures { MeasuringKept (lent_samples 31 window.now) index kept nominal result }
 {
-    let centre = positive_sequence(window, index % 15, 1);
     join(
-        centre,
-        differences_of(kept.p, kept.q, kept.r),
+        positive_from(window, index, 1),
+        differences_of(kept),
         nominal,
-        THREE_PHASE,
     )
 }

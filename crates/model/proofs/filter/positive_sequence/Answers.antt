@@ -1,0 +1,21 @@
+-- `positive_sequence` is re and im: both sums, over two turns of the tables. Assumes nothing.
+use Rattle.std.proofs.Common.{◌∙◌, arith}
+use Rattle.model.specs.Filter.{cosines, sines, positive}
+use Rattle.model.proofs.Tables.{turned, cosines_tabled, sines_tabled}
+use Rattle.model.proofs.Same.{weighted_entries}
+use Rattle.model.proofs.Signed.{signed}
+use Rattle.model.proofs.filter.positive_sequence.Goals as goal
+
+pub of-requires : goal.of-requires
+of-requires c = cosines_tabled
+
+pub of-requires-2 : goal.of-requires-2
+of-requires-2 c = sines_tabled
+
+pub returns-clause-is : goal.returns-clause-is
+unfolding positive
+returns-clause-is c =
+    let s = c.weighted_sums-sums.ensures in
+    let re-is = s.cosine ∙ weighted_entries _ cosines (turned cosines c.of.result.entries c.of.ensures) _ _ in
+    let im-is = s.sine ∙ weighted_entries _ sines (turned sines c.of-2.result.entries c.of-2.ensures) _ _ in
+    grind (arith, signed)
