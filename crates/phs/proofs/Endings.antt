@@ -1,11 +1,13 @@
--- The last line, by where the reader stands. Assumes nothing.
-use Rattle.std.proofs.Common.{◌≡◌, ℕ, ◌<◌, ◌≤◌, List, length, sym, ap, ◌∙◌, zero-add, arith, le-ltb, lt-ltb}
+-- The last line, by whether it has room. Assumes nothing.
+use Rattle.std.proofs.Common.{◌≡◌, ℕ, ◌<◌, ◌≤◌, List, length, drop, ◌++◌, sym, ap, ◌∙◌, zero-add, arith, le-ltb, lt-ltb}
 use lib.Seq.{sets}
-use Rattle.text.specs.Put.{Wrote}
+use Rattle.std.specs.Array.{IsFirstChunk}
+use Rattle.text.specs.Put.{Leads, Wrote}
 use Rattle.text.proofs.Writing.{nothing}
 use Rattle.phs.specs.declared.Reader.{Reader}
 use Rattle.phs.specs.Lines.{line_room}
 use Rattle.phs.specs.Stream.{last, last_with, Finishing}
+use Rattle.phs.proofs.Onwards.{wrote_first}
 
 module _ (r : Reader) (out : List ℕ) where
   -- what is written is the last line
@@ -18,6 +20,8 @@ module _ (r : Reader) (out : List ℕ) where
   unfolding last_with
   no_room_left h = wrote_last (rw (lt-ltb (length out) line_room h)) nothing (omega arith)
 
-  pub line_last : line_room ≤ length out → {out' : List ℕ} {n : ℕ} → Wrote line_room (last r) out 0 n out' → Finishing r out n out'
+  pub line_last : {line line' : List ℕ} {n : ℕ} → IsFirstChunk out line line_room → Leads line_room (last r) line n line'
+      → Finishing r out n (line' ++ drop line_room out)
   unfolding last_with
-  line_last room w = wrote_last (rw (le-ltb (length out) line_room room)) w (omega (arith, w.ends, w.short))
+  line_last line_is w =
+      wrote_last (rw (le-ltb (length out) line_room line_is.enough)) (wrote_first out line_is w) (omega (arith, w.short, line_is.enough))

@@ -7,7 +7,6 @@ pub mod Counts
 pub mod Headers
 pub mod Held
 pub mod Putting
-pub mod Six
 pub mod Answering
 pub mod Stepping
 pub mod Room

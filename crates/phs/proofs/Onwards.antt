@@ -1,8 +1,11 @@
 -- A call that goes on from place to place: places follow one another, a byte or a sample goes on, and at the end the call leaves what it promises. Assumes nothing.
-use Rattle.std.proofs.Common.{◌≡◌, ℕ, ◌+◌, ◌-◌, ◌<◌, ◌≤◌, true, false, ◌&&◌, eqb, leb, List, [], ◌++◌, length, get_or, take, drop, sym, refl, ap, ◌∙◌, subst, ap₂, append-nil, le_refl, add-zero, zero-add, arith, lit≤, length-append, length-drop, take-append-drop, drop_of_length-le, length-take-le, get_or-drop, drop-drop, take_at, drop_at, eqb-true, leb-true, le-leb}
+use Rattle.std.proofs.Common.{◌≡◌, ℕ, ◌+◌, ◌-◌, ◌<◌, ◌≤◌, Bool, true, false, ◌&&◌, eqb, leb, List, [], ◌++◌, length, get_or, take, drop, sym, refl, ap, ◌∙◌, subst, ap₂, append-nil, append_assoc, ltb, le_refl, add-zero, zero-add, arith, lit≤, length-append, length-drop, take-append-drop, drop_of_length-le, length-take-le, drop-drop, take_at, drop_at, eqb-true, leb-true, leb-false, ltb-false}
 use Rattle.bank.proofs.Blank.{both_true}
-use lib.Seq.{sets, sets-eq, length-sets}
-use Rattle.text.specs.Put.{Wrote}
+use lib.Seq.{sets, sets-eq, length-sets, take-append-add, drop-append-add}
+use Rattle.std.proofs.lemmas.List.{drop_all, take_rest, drop-append-le}
+use borrow.Rule.Slice.PartMut.{put_mid}
+use Rattle.std.specs.Array.{IsFirstChunk}
+use Rattle.text.specs.Put.{Leads, Wrote}
 use Rattle.model.specs.declared.filter.Sample.{Sample}
 use Rattle.feed.specs.Places.{sample_of}
 use Rattle.bank.specs.Calls.{pushed_at}
@@ -10,23 +13,11 @@ use Rattle.phs.specs.declared.Stage.{Stage}
 use Rattle.phs.specs.declared.Stage.TheVariants.{InHeader, InSamples, Over}
 use Rattle.phs.specs.declared.byte.Step.{Step}
 use Rattle.phs.specs.declared.Reader.{Reader}
-use Rattle.phs.specs.declared.Moved.{Moved}
 use Rattle.phs.specs.Lines.{line_room}
 use Rattle.phs.specs.Stream.{Left, reader_at, sampled, after_byte, Fed, unread, onto, fed, outcome, Reading}
 use Rattle.phs.specs.Inside.{Steps, begins_in, Place, whole_from, Onward}
 use Rattle.phs.proofs.Counts.{clash}
-use Rattle.phs.proofs.Room.{onto_onto, Takes, takes_byte, takes_sample, no_room, none_left}
-
-pub onward_self : (part : List ℕ) (p : Place) → p.read ≤ length part → p.written ≤ length p.out → Onward part p p
-onward_self part p l m = record {
-  same = refl;
-  long = refl;
-  further = le_refl p.read;
-  within = l;
-  grown = le_refl p.written;
-  fits = m;
-  beyond = refl;
-}
+use Rattle.phs.proofs.Room.{onto_onto, Takes, takes_byte, takes_sample, six_first, no_room, none_left}
 
 pub onward_then : {part : List ℕ} {p q s : Place} → Onward part p q → Onward part q s → Onward part p s
 onward_then {part} {p} {q} {s} a b =
@@ -45,12 +36,63 @@ onward_then {part} {p} {q} {s} a b =
           ∙ drop-drop d q.written p.out ∙ ap (λ (n : ℕ). drop n p.out) e;
     }
 
--- where the call has got to
-pub onward_reached : {part : List ℕ} {p : Place} {q : Reader} {bank out : List ℕ} {i at : ℕ} {m : Moved} → m ≡ record { reader = q; read = i; written = at }
-    → Onward part p (record { reader = q; bank = bank; out = out; read = i; written = at })
-    → Onward part p (record { reader = m.reader; bank = bank; out = out; read = m.read; written = m.written })
-onward_reached {part} {p} {bank = bank} {out = out} e o =
-    subst (λ (x : Moved). Onward part p (record { reader = x.reader; bank = bank; out = out; read = x.read; written = x.written })) (sym e) o
+-- a call begins at the start
+at_start : (part out : List ℕ) (r : Reader) (bank : List ℕ) → onto 0 [] (fed (length out - 0) r bank part) ≡ fed (length out) r bank part
+at_start part out r bank =
+    let f : Fed = fed (length out) r bank part in
+    ap (λ (k : ℕ). onto 0 [] (fed k r bank part)) (less (length out))
+    ∙ (λ x. record { reader = f.reader; bank = f.bank; read = zero-add f.read x; text = f.text })
+  where
+    less : (n : ℕ) → n - 0 ≡ n
+    less n = omega arith
+
+-- a call on what follows a place goes on from there
+module _ (part : List ℕ) {r q : Reader} {bank bank' : List ℕ} (out : List ℕ) {new : List ℕ} (i at : ℕ) {j k : ℕ} (l : i ≤ length part) (m : at ≤ length out)
+    (on : Onward (take (length part - i) (drop i part)) (record { reader = r; bank = bank; out = take (length out - at) (drop at out); read = 0; written = 0 })
+    (record { reader = q; bank = bank'; out = new; read = j; written = k })) where
+  onward_rest : Onward (drop i part) (record { reader = r; bank = bank; out = take (length out - at) (drop at out); read = 0; written = 0 })
+      (record { reader = q; bank = bank'; out = new; read = j; written = k })
+  onward_rest = subst (λ (p : List ℕ). Onward p (record { reader = r; bank = bank; out = take (length out - at) (drop at out); read = 0; written = 0 })
+      (record { reader = q; bank = bank'; out = new; read = j; written = k })) (take_rest part i) on
+
+  rest_is : take (length out - at) (drop at out) ≡ drop at out
+  rest_is = take_rest out at
+
+  front_is : length (take at out) ≡ at
+  front_is = length-take-le at out m
+
+  out_is_both : put_mid at (length out - at) out new ≡ take at out ++ new
+  out_is_both = rw (drop_all (length out - at) (drop at out) (omega (arith, length-drop at out)), append-nil new)
+
+  same_length : length new ≡ length out - at
+  same_length = omega (arith, onward_rest.long, ap length rest_is, length-drop at out)
+
+  out_length : length (put_mid at (length out - at) out new) ≡ length out
+  out_length = omega (arith, ap length out_is_both, length-append (take at out) new, front_is, same_length)
+
+  pub onward_from : Onward part (record { reader = r; bank = bank; out = out; read = i; written = at })
+      (record { reader = q; bank = bank'; out = put_mid at (length out - at) out new; read = i + j; written = at + k })
+  unfolding whole_from
+  onward_from =
+      let text : take (at + k) (put_mid at (length out - at) out new) ≡ take at out ++ take k new =
+      ap (take (at + k)) out_is_both ∙ ap (λ (n : ℕ). take (n + k) (take at out ++ new)) (sym front_is) ∙ take-append-add (take at out) new k in
+      let left : length (put_mid at (length out - at) out new) - (at + k) ≡ length new - k = omega (arith, out_length, same_length, onward_rest.fits) in
+      record {
+        same =
+            (λ x. onto (i + j) (text x) (fed (left x) q bank' (sym (drop-drop j i part) x)))
+            ∙ sym (onto_onto i j (take at out) (take k new) (fed (length new - k) q bank' (drop j (drop i part))))
+            ∙ ap (onto i (take at out))
+            (onward_rest.same ∙ at_start (drop i part) (take (length out - at) (drop at out)) r bank
+            ∙ ap (λ (n : ℕ). fed n r bank (drop i part)) (omega (arith, ap length rest_is, length-drop at out)));
+        long = out_length;
+        further = omega arith;
+        within = omega (arith, onward_rest.within, length-drop i part);
+        grown = omega arith;
+        fits = omega (arith, out_length, same_length, onward_rest.fits);
+        beyond =
+            ap (drop (at + k)) out_is_both ∙ ap (λ (n : ℕ). drop (n + k) (take at out ++ new)) (sym front_is) ∙ drop-append-add (take at out) new k
+            ∙ onward_rest.beyond ∙ ap (drop k) rest_is ∙ drop-drop k at out;
+      }
 
 -- ---- text that is written at a place
 
@@ -76,6 +118,34 @@ module _ {text out out' : List ℕ} {at end : ℕ} (w : Wrote line_room text out
 
   pub written_fits : end ≤ length out'
   written_fits = omega (arith, w.ends, w.short, length_same)
+
+-- a line that is written in its room, from a place on
+pub wrote_in : {text line' : List ℕ} {r : ℕ} (out : List ℕ) (at : ℕ) → at + line_room ≤ length out → Leads line_room text (take line_room (drop at out)) r line'
+    → Wrote line_room text out at (at + r) (take at out ++ (line' ++ drop line_room (drop at out)))
+wrote_in {text} {line'} {r} out at room w =
+    let d : List ℕ = drop at out in
+    let long : line_room ≤ length d = omega (arith, length-drop at out) in
+    let end : at + r ≡ at + length text = omega (arith, w.ends) in
+    let rest : drop r (take line_room d) ++ drop line_room d ≡ drop (at + length text) out =
+    sym (drop-append-le r (take line_room d) (drop line_room d) (omega (arith, w.short, length-take-le line_room d long)))
+    ∙ ap (drop r) (take-append-drop line_room d)
+    ∙ drop-drop r at out ∙ ap (λ (n : ℕ). drop n out) end in
+    record {
+      ends = end;
+      bytes =
+          ap (λ (l : List ℕ). take at out ++ (l ++ drop line_room d)) w.bytes
+          ∙ ap (λ (l : List ℕ). take at out ++ l) (append_assoc text (drop r (take line_room d)) (drop line_room d) ∙ ap (λ (l : List ℕ). text ++ l) rest)
+          ∙ sym (append_assoc (take at out) text (drop (at + length text) out))
+          ∙ sym (sets-eq text out at (omega (arith, w.ends, w.short)));
+      short = omega (arith, w.ends, w.short);
+    }
+
+-- and from the start on
+pub wrote_first : {text line line' : List ℕ} {r : ℕ} (out : List ℕ) → IsFirstChunk out line line_room → Leads line_room text line r line'
+    → Wrote line_room text out 0 r (line' ++ drop line_room out)
+wrote_first {text} {line} {line'} {r} out line_is w =
+    subst (λ (n : ℕ). Wrote line_room text out 0 n (line' ++ drop line_room out)) (zero-add r)
+    (wrote_in out 0 (omega (arith, line_is.enough)) (subst (λ (x : List ℕ). Leads line_room text x r line') line_is.same w))
 
 -- ---- some bytes more
 
@@ -121,25 +191,27 @@ begins_is r left e = go r.stage refl e
         record { in_samples = q; none_held = eqb-true r.held 0 both.0; is_whole = leb-true 6 left both.1 }
     go Over q t = absurd (clash (sym t))
 
--- the test of a sample more: it is whole in what is left, and a line has room
-module _ (left room : ℕ) where
-  pub one_more : leb 6 left && leb line_room room ≡ true → (6 ≤ left) × (line_room ≤ room)
-  one_more e = let both = both_true (leb 6 left) (leb line_room room) e in (leb-true 6 left both.0, leb-true line_room room both.1)
-
-  pub one_is_short : leb 6 left && leb line_room room ≡ false → 6 ≤ left → line_room ≤ room → ⊥
-  one_is_short e l r = clash (sym (λ i. le-leb 6 left l i && le-leb line_room room r i) ∙ e)
-
--- a sample that begins here
-pub onward_sample : {part : List ℕ} (r : Reader) {bank bank' out out' : List ℕ} {i at : ℕ} (s : Sample) {q : Step}
-    → r.stage ≡ InSamples → r.held ≡ 0 → 6 ≤ length r.kept → 6 ≤ length part - i → at + line_room ≤ length out → s ≡ sample_of (drop i part)
-    → Steps (sampled r.reports r.samples (pushed_at bank 0 s)) out at q bank' out'
+-- a sample that begins here, its line written in its room
+pub onward_sample : {part : List ℕ} (r : Reader) {bank bank' front rest line line' six : List ℕ} (out : List ℕ) (i at : ℕ) {s : Sample} {q : Step}
+    → r.stage ≡ InSamples → r.held ≡ 0 → 6 ≤ length r.kept → i ≤ length part → IsFirstChunk (take (length part - i) (drop i part)) six 6 → s ≡ sample_of six
+    → at ≤ length out → (front ≡ take at out) × (rest ≡ drop at out) → IsFirstChunk rest line line_room
+    → Steps (sampled r.reports r.samples (pushed_at bank 0 s)) line q bank' line'
     → Onward part
     (record { reader = r; bank = bank; out = out; read = i; written = at })
-    (record { reader = q.reader; bank = bank'; out = out'; read = i + 6; written = q.at })
-onward_sample {part} r {bank} {i = i} s p q k l room e w =
-    let n : Sample → Left = λ s. sampled r.reports r.samples (pushed_at bank 0 s) in
-    onward_by (n s) 6 (subst (λ (x : Sample). Takes r bank (drop i part) 6 (n x)) (sym e) (takes_sample r bank (drop i part) p q k (omega (arith, length-drop i part))))
-    (omega arith) room w.reader w.bank w.text
+    (record { reader = q.reader; bank = bank'; out = front ++ (line' ++ drop line_room rest); read = i + 6; written = at + q.written })
+onward_sample {part} r {bank} {bank'} {front} {rest} {line} {line'} {six} out i at {s} {q} e h k l six_is s_is m parts line_is w =
+    let n : Left = sampled r.reports r.samples (pushed_at bank 0 s) in
+    let here : take (length part - i) (drop i part) ≡ drop i part = take_rest part i in
+    let left : 6 ≤ length (drop i part) = omega (arith, six_is.enough, ap length here) in
+    let room : at + line_room ≤ length out = omega (arith, line_is.enough, ap length parts.1, length-drop at out) in
+    let sample : s ≡ sample_of (drop i part) = s_is ∙ ap sample_of (six_is.same ∙ ap (take 6) here) ∙ six_first (drop i part) in
+    let text : Leads line_room n.text (take line_room (drop at out)) q.written line' =
+    subst (λ (x : List ℕ). Leads line_room n.text x q.written line') (line_is.same ∙ ap (take line_room) parts.1) w.text in
+    subst (λ (o : List ℕ). Onward part (record { reader = r; bank = bank; out = out; read = i; written = at })
+    (record { reader = q.reader; bank = bank'; out = o; read = i + 6; written = at + q.written }))
+    (λ x. sym parts.0 x ++ (line' ++ drop line_room (sym parts.1 x)))
+    (onward_by n 6 (subst (λ (x : Sample). Takes r bank (drop i part) 6 (sampled r.reports r.samples (pushed_at bank 0 x))) (sym sample) (takes_sample r bank (drop i part) e h k left))
+    (omega (arith, length-drop i part)) room w.reader w.bank (wrote_in out at room text))
 
 -- bytes that are kept of no sample don't count where a sample begins
 pub onward_fresh : {part : List ℕ} (r : Reader) {bank out : List ℕ} {i at : ℕ}
@@ -163,36 +235,24 @@ onward_fresh {part} r {bank} {out} {i} {at} p q k l room =
       beyond = refl;
     }
 
--- any byte
-pub onward_byte : {part : List ℕ} (r : Reader) {bank bank' out out' : List ℕ} {i at : ℕ} {s : Step}
-    → i < length part → at + line_room ≤ length out → Steps (after_byte r bank (get_or part i 0)) out at s bank' out'
+-- the first byte
+pub onward_byte : {part : List ℕ} (r : Reader) {bank bank' line line' : List ℕ} (out : List ℕ) {s : Step}
+    → 0 < length part → IsFirstChunk out line line_room → Steps (after_byte r bank (get_or part 0 0)) line s bank' line'
     → Onward part
-    (record { reader = r; bank = bank; out = out; read = i; written = at })
-    (record { reader = s.reader; bank = bank'; out = out'; read = i + 1; written = s.at })
-onward_byte {part} r {bank} {i = i} l room w =
-    let first : get_or (drop i part) 0 0 ≡ get_or part i 0 = get_or-drop i part 0 0 ∙ ap (λ (k : ℕ). get_or part k 0) (add-zero i) in
-    onward_by (after_byte r bank (get_or part i 0)) 1
-    (subst (λ (b : ℕ). Takes r bank (drop i part) 1 (after_byte r bank b)) first (takes_byte r bank (drop i part) (omega (arith, length-drop i part))))
-    (omega arith) room w.reader w.bank w.text
+    (record { reader = r; bank = bank; out = out; read = 0; written = 0 })
+    (record { reader = s.reader; bank = bank'; out = line' ++ drop line_room out; read = 1; written = s.written })
+onward_byte {part} r {bank} out l line_is w =
+    onward_by (after_byte r bank (get_or part 0 0)) 1 (takes_byte r bank part l) l line_is.enough w.reader w.bank (wrote_first out line_is w.text)
 
 -- ---- the end of a call
 
 module _ {part : List ℕ} {r q : Reader} {bank bank' out out' : List ℕ} {i at : ℕ}
     (o : Onward part (record { reader = r; bank = bank; out = out; read = 0; written = 0 }) (record { reader = q; bank = bank'; out = out'; read = i; written = at }))
     (stopped : fed (length out' - at) q bank' (drop i part) ≡ unread q bank') where
-  at_start : onto 0 [] (fed (length out - 0) r bank part) ≡ fed (length out) r bank part
-  at_start =
-      let f : Fed = fed (length out) r bank part in
-      ap (λ (k : ℕ). onto 0 [] (fed k r bank part)) (less (length out))
-      ∙ (λ x. record { reader = f.reader; bank = f.bank; read = zero-add f.read x; text = f.text })
-    where
-      less : (n : ℕ) → n - 0 ≡ n
-      less n = omega arith
-
   whole_is : fed (length out) r bank part ≡ record { reader = q; bank = bank'; read = i; text = take at out' }
   unfolding whole_from
   whole_is =
-      sym at_start ∙ sym o.same ∙ ap (onto i (take at out')) stopped
+      sym (at_start part out r bank) ∙ sym o.same ∙ ap (onto i (take at out')) stopped
       ∙ (λ x. record { reader = q; bank = bank'; read = add-zero i x; text = append-nil (take at out') x })
 
   text_length : length (take at out') ≡ at
@@ -217,13 +277,12 @@ module _ {part : List ℕ} {r q : Reader} {bank bank' out out' : List ℕ} {i at
   }
 
 -- a call ends where the part is read, or where a line has no room
-pub call_read : {part : List ℕ} {r q : Reader} {bank bank' out out' : List ℕ} {i at : ℕ}
+pub call_stops : {part : List ℕ} {r q : Reader} {bank bank' out out' : List ℕ} {i at : ℕ}
     → Onward part (record { reader = r; bank = bank; out = out; read = 0; written = 0 }) (record { reader = q; bank = bank'; out = out'; read = i; written = at })
-    → length part ≤ i → Reading r bank part out (record { reader = q; read = i; written = at }) bank' out'
-call_read {part} {q = q} {bank' = bank'} {out' = out'} {i = i} {at = at} o l =
-    call_ends o (ap (fed (length out' - at) q bank') (drop_of_length-le part l) ∙ none_left (length out' - at) q bank')
-
-pub call_full : {part : List ℕ} {r q : Reader} {bank bank' out out' : List ℕ} {i at : ℕ}
-    → Onward part (record { reader = r; bank = bank; out = out; read = 0; written = 0 }) (record { reader = q; bank = bank'; out = out'; read = i; written = at })
-    → length out' - at < line_room → Reading r bank part out (record { reader = q; read = i; written = at }) bank' out'
-call_full {part} {q = q} {bank' = bank'} {out' = out'} {i = i} {at = at} o l = call_ends o (no_room (length out' - at) q bank' (drop i part) l)
+    → ltb i (length part) && leb line_room (length out' - at) ≡ false → Reading r bank part out (record { reader = q; read = i; written = at }) bank' out'
+call_stops {part} {r} {q} {bank} {bank'} {out} {out'} {i} {at} w e = by (ltb i (length part)) refl e
+  where
+    by : (t : Bool) → ltb i (length part) ≡ t → t && leb line_room (length out' - at) ≡ false
+        → Reading r bank part out (record { reader = q; read = i; written = at }) bank' out'
+    by true l f = call_ends w (no_room (length out' - at) q bank' (drop i part) (leb-false _ _ f))
+    by false l f = call_ends w (ap (fed (length out' - at) q bank') (drop_of_length-le part (ltb-false _ _ l)) ∙ none_left (length out' - at) q bank')

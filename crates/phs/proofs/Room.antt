@@ -1,5 +1,6 @@
 -- Where there is room for a line, a part is read by one byte, and by six where a sample begins. By the rule of one byte, six times. Assumes nothing.
-use Rattle.std.proofs.Common.{◌≡◌, ℕ, ◌+◌, ◌-◌, ◌<◌, ◌≤◌, List, [], ◌∷◌, ◌++◌, length, get_or, drop, set, sym, refl, ap, ◌∙◌, subst, append_assoc, add_assoc, arith, le-ltb, lt-ltb}
+use Rattle.std.proofs.Common.{◌≡◌, ℕ, ◌+◌, ◌-◌, ◌<◌, ◌≤◌, List, [], ◌∷◌, ◌++◌, length, get_or, take, drop, set, lit<, sym, refl, ap, ◌∙◌, subst, append_assoc, add_assoc, arith, le-ltb, lt-ltb}
+use lib.Seq.{get_or-take}
 use Rattle.model.specs.declared.filter.Sample.{Sample}
 use Rattle.feed.specs.Places.{sample_of}
 use Rattle.bank.specs.Calls.{pushed_at}
@@ -63,6 +64,12 @@ gathers (x₀ ∷ x₁ ∷ x₂ ∷ []) a b c d e f l = absurd (omega arith)
 gathers (x₀ ∷ x₁ ∷ x₂ ∷ x₃ ∷ []) a b c d e f l = absurd (omega arith)
 gathers (x₀ ∷ x₁ ∷ x₂ ∷ x₃ ∷ x₄ ∷ []) a b c d e f l = absurd (omega arith)
 gathers (x₀ ∷ x₁ ∷ x₂ ∷ x₃ ∷ x₄ ∷ x₅ ∷ k) a b c d e f l = refl
+
+-- six bytes are the sample that they begin with
+pub six_first : (l : List ℕ) → sample_of (take 6 l) ≡ sample_of l
+unfolding sample_of
+six_first l =
+    rw (get_or-take 6 l 0 0 (lit< tt), get_or-take 6 l 1 0 (lit< tt), get_or-take 6 l 2 0 (lit< tt), get_or-take 6 l 3 0 (lit< tt), get_or-take 6 l 4 0 (lit< tt), get_or-take 6 l 5 0 (lit< tt)) refl
 
 module _ (reports samples : ℕ) (bank : List ℕ) where
   -- in the samples, with n bytes kept

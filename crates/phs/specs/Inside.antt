@@ -1,40 +1,40 @@
 -- What the functions inside the crate promise one another, as they read a part. No part of any promise of the crate.
 use Rattle.std.specs.Prelude.{◌≡◌, ℕ, ◌-◌, ◌≤◌, Bool, false, ◌&&◌, List, length, take, drop, ◌==◌, nat_le, Result, Ok, Err}
-use Rattle.text.specs.Put.{Wrote}
+use Rattle.text.specs.Put.{Leads}
 use Rattle.refusals.specs.declared.Refused.{Refused}
 use Rattle.refusals.specs.Refusals.{number_of}
 use Rattle.phs.specs.declared.Stage.{Stage}
 use Rattle.phs.specs.declared.Stage.TheVariants.{InHeader, InSamples, Over}
 use Rattle.phs.specs.declared.Reader.{Reader}
-use Rattle.phs.specs.declared.feeding.Tally.{Tally}
+use Rattle.phs.specs.declared.feeding.Counts.{Counts}
 use Rattle.phs.specs.declared.byte.Step.{Step}
 use Rattle.phs.specs.Lines.{refused_line, line_room}
 use Rattle.phs.specs.Stream.{Left, reader_at, Fed, onto, fed}
 
--- the step after a whole header or sample that is not refused: the reader keeps no byte
-abbrev pub step_of : Tally → Step
-step_of t = record { reader = reader_at InSamples t.reports t.samples; at = t.at }
-
--- a step leaves this: its text is written from `at` on
-pub record Steps (n : Left) (out : List ℕ) (at : ℕ) (s : Step) (bank' out' : List ℕ) : Type 0 where
+-- a step leaves this: its text is written at the start of the line
+pub record Steps (n : Left) (line : List ℕ) (s : Step) (bank' line' : List ℕ) : Type 0 where
   pub reader : s.reader ≡ n.reader
   pub bank : bank' ≡ n.bank
-  pub text : Wrote line_room n.text out at s.at out'
+  pub text : Leads line_room n.text line s.written line'
 
--- a whole header or sample leads to this, from the tally t: to the next tally, or to a refusal, of which nothing is written yet
-abbrev pub Leads : Left → Tally → List ℕ → Result Tally Refused → List ℕ → List ℕ → Type 0
-Leads n t out (Ok u) bank' out' = Steps n out t.at (step_of u) bank' out'
-Leads n t out (Err r) bank' out' =
-    (n ≡ record { reader = reader_at Over t.reports t.samples; bank = bank'; text = refused_line (number_of r) }) × (out' ≡ out)
+-- the step after a whole header or sample that is not refused, by the counts and the length of its text: the reader keeps no byte
+abbrev pub step_of : Counts × ℕ → Step
+step_of (c, written) = record { reader = reader_at InSamples c.reports c.samples; written = written }
+
+-- a whole header or sample ends with this, from the counts c: with the next counts and its text, or with a refusal, of which nothing is written yet
+abbrev pub Ends : Left → Counts → List ℕ → Result (Counts × ℕ) Refused → List ℕ → List ℕ → Type 0
+Ends n c line (Ok next) bank' line' = Steps n line (step_of next) bank' line'
+Ends n c line (Err r) bank' line' =
+    (n ≡ record { reader = reader_at Over c.reports c.samples; bank = bank'; text = refused_line (number_of r) }) × (line' ≡ line)
 
 -- the line `refused N` is written, and the listing is over
-abbrev pub Refuses : Tally → Refused → List ℕ → Step → List ℕ → Type 0
-Refuses t r out s out' = (s.reader ≡ reader_at Over t.reports t.samples) × Wrote line_room (refused_line (number_of r)) out t.at s.at out'
+abbrev pub Refuses : Counts → Refused → List ℕ → Step → List ℕ → Type 0
+Refuses c r line s line' = (s.reader ≡ reader_at Over c.reports c.samples) × Leads line_room (refused_line (number_of r)) line s.written line'
 
 -- the step after a whole header or sample
-abbrev pub Settles : Tally → Result Tally Refused → List ℕ → Step → List ℕ → Type 0
-Settles t (Ok u) out s out' = (s ≡ step_of u) × (out' ≡ out)
-Settles t (Err r) out s out' = Refuses t r out s out'
+abbrev pub Settles : Counts → Result (Counts × ℕ) Refused → List ℕ → Step → List ℕ → Type 0
+Settles c (Ok next) line s line' = (s ≡ step_of next) × (line' ≡ line)
+Settles c (Err r) line s line' = Refuses c r line s line'
 
 -- whether a sample begins here that is whole in what is left
 abbrev pub begins_in : Stage → Reader → ℕ → Bool

@@ -4,21 +4,19 @@
 mod byte;
 mod feeding;
 mod line;
-mod sample;
 
-ghost use Rattle.std.specs.Prelude.{◌≡◌, ◌+◌, ◌<◌, ◌≤◌, length};
-ghost use Rattle.text.specs.Put.{Wrote};
+ghost use Rattle.std.specs.Prelude.{◌≡◌, ◌<◌, ◌≤◌, length};
+ghost use Rattle.text.specs.Put.{Leads};
 ghost use Rattle.phs.specs.Lines.{line_room};
-ghost use Rattle.phs.specs.Stream.{started, last, Reading, Finishing};
-ghost use Rattle.phs.specs.Inside.{step_of, begins_in, Onward};
+ghost use Rattle.phs.specs.Stream.{started, last, reader_at, Reading, Finishing};
+ghost use Rattle.phs.specs.Inside.{begins_in, Onward};
+ghost use Rattle.phs.specs.declared.Stage.TheVariants.{InSamples};
 
-use byte::{Step, go_on, reader_at, refuse, take_byte};
-use feeding::{Tally, take_sample};
+use byte::{reader_at, refuse, take_byte};
+use feed::sample_of;
+use feeding::{Counts, take_sample};
+use line::LINE;
 use refusals::Refused;
-use sample::sample_at;
-
-// The room that any line has enough of.
-const LINE: usize = 256;
 
 // Where in the file a reader stands.
 #[derive(Clone, Copy)]
@@ -41,6 +39,18 @@ pub struct Reader {
     pub samples: u64,
 }
 
+impl Reader {
+    // The report lines and the samples taken so far.
+    fn counts(self) -> Counts
+        ensures { result ≡ record { reports = self.reports; samples = self.samples } }
+    {
+        Counts {
+            reports: self.reports,
+            samples: self.samples,
+        }
+    }
+}
+
 // The next reader, how much of the part is read, and how much text is written.
 #[derive(Clone, Copy)]
 pub struct Moved {
@@ -53,7 +63,7 @@ pub struct Moved {
 pub fn start() -> Reader
     ensures { result ≡ started }
 {
-    reader_at(Stage::InHeader, 0, 0)
+    reader_at(Stage::InHeader, Counts::NONE)
 }
 
 // Reads the part for as long as there is room for a line. A whole header clears the bank and opens slot 0; samples are pushed there.
@@ -63,14 +73,11 @@ pub fn read_part(r: Reader, bank: &mut [u8], part: &[u8], out: &mut [u8]) -> Mov
     let mut reader = r;
     let mut i = 0;
     let mut at = 0;
-    while i < part.len() {
-        if out.len() - at < LINE {
-            break;
-        }
-        let m = advance(reader, bank, part, i, out, at);
+    while (i < part.len()) & (LINE <= out.len() - at) {
+        let m = advance(reader, bank, &part[i..], &mut out[at..]);
         reader = m.reader;
-        i = m.read;
-        at = m.written;
+        i += m.read;
+        at += m.written;
     }
     Moved {
         reader,
@@ -84,69 +91,90 @@ pub fn read_part(r: Reader, bank: &mut [u8], part: &[u8], out: &mut [u8]) -> Mov
 pub fn finish(r: Reader, out: &mut [u8]) -> usize
     ensures { Finishing r out.old result out.new }
 {
-    if out.len() < LINE {
+    let Some(line) = out.first_chunk_mut() else {
         return 0;
-    }
-    put_end(r, out)
+    };
+    put_end(r, line)
 }
 
-// The last line, where there is room.
+// The last line.
 #[tactic(auto, unfolding(crate::specs::Stream::last))]
-fn put_end(r: Reader, out: &mut [u8]) -> usize
-    requires { line_room ≤ length out.old }
-    ensures { Wrote line_room (last r) out.old 0 result out.new }
+fn put_end(r: Reader, line: &mut [u8; LINE]) -> usize
+    ensures { Leads line_room (last r) line.old result line.new }
 {
     let stage = r.stage;
     match stage {
-        Stage::InHeader => line::put_refused(Refused::HeaderCut, out, 0),
+        Stage::InHeader => line::put_refused(Refused::HeaderCut, line),
         Stage::InSamples => {
             if r.held == 0 {
-                line::put_last(r.reports, r.samples, out, 0)
+                line::put_last(r.counts(), line)
             } else {
-                line::put_refused(Refused::SampleCut, out, 0)
+                line::put_refused(Refused::SampleCut, line)
             }
         }
         Stage::Over => 0,
     }
 }
 
-// The samples that are whole in the part where one begins here, and else one byte.
-fn advance(r: Reader, bank: &mut [u8], part: &[u8], i: usize, out: &mut [u8], at: usize) -> Moved
-    requires { (i < length part.now) × (at + line_room ≤ length out.old) }
+// From the start of the part, where a line has room: the samples that are whole where one begins, and else one byte.
+fn advance(r: Reader, bank: &mut [u8], part: &[u8], out: &mut [u8]) -> Moved
+    requires { (0 < length part.now) × (line_room ≤ length out.old) }
     ensures onward { Onward part.now
-        (record { reader = r; bank = bank.old; out = out.old; read = i; written = at })
+        (record { reader = r; bank = bank.old; out = out.old; read = 0; written = 0 })
         (record { reader = result.reader; bank = bank.new; out = out.new; read = result.read; written = result.written }) }
-    ensures read_grows { i < result.read }
+    ensures read_grows { 0 < result.read }
 {
-    if begins_sample(r, part.len() - i) {
-        let tally = Tally {
-            reports: r.reports,
-            samples: r.samples,
-            at,
-        };
-        return take_samples(tally, bank, part, i, out);
+    if begins_sample(r, part.len()) {
+        return take_samples(r.counts(), bank, part, out);
     }
-    reached(take_byte(r, part[i], bank, out, at), i + 1)
+    let Some(line) = out.first_chunk_mut() else {
+        unreachable!()
+    };
+    let s = take_byte(r, part[0], bank, line);
+    Moved {
+        reader: s.reader,
+        read: 1,
+        written: s.written,
+    }
 }
 
-// Whole samples, from one that is whole and has room for a line, for as long as the part has them, there is room and none is refused.
-fn take_samples(t: Tally, bank: &mut [u8], part: &[u8], from: usize, out: &mut [u8]) -> Moved
-    requires { (from + 6 ≤ length part.now) × (t.at + line_room ≤ length out.old) }
+// Whole samples from the start of the part, for as long as it has them, a line has room and none is refused: one at least.
+fn take_samples(c: Counts, bank: &mut [u8], part: &[u8], out: &mut [u8]) -> Moved
+    requires { (6 ≤ length part.now) × (line_room ≤ length out.old) }
     ensures onward { Onward part.now
-        (record { reader = (step_of t).reader; bank = bank.old; out = out.old; read = from; written = t.at })
+        (record { reader = reader_at InSamples c.reports c.samples; bank = bank.old; out = out.old; read = 0; written = 0 })
         (record { reader = result.reader; bank = bank.new; out = out.new; read = result.read; written = result.written }) }
-    ensures read_grows { from < result.read }
+    ensures read_grows { 0 < result.read }
 {
-    let mut tally = t;
-    let mut i = from;
-    while (6 <= part.len() - i) & (LINE <= out.len() - tally.at) {
-        match take_sample(tally, bank, sample_at(part, i), out) {
-            Ok(next) => tally = next,
-            Err(refused) => return reached(refuse(tally, refused, out), i + 6),
+    let mut counts = c;
+    let mut read = 0;
+    let mut written = 0;
+    while let Some(six) = part[read..].first_chunk() {
+        let (_, room) = out.split_at_mut(written);
+        let Some(line) = room.first_chunk_mut() else {
+            break;
+        };
+        read += 6;
+        match take_sample(counts, bank, sample_of(*six), line) {
+            Ok((next, text)) => {
+                counts = next;
+                written += text;
+            }
+            Err(refused) => {
+                let s = refuse(counts, refused, line);
+                return Moved {
+                    reader: s.reader,
+                    read,
+                    written: written + s.written,
+                };
+            }
         }
-        i += 6;
     }
-    reached(go_on(tally), i)
+    Moved {
+        reader: reader_at(Stage::InSamples, counts),
+        read,
+        written,
+    }
 }
 
 // Whether the next of these bytes begins a sample that is whole in them.
@@ -154,16 +182,4 @@ fn begins_sample(r: Reader, left: usize) -> bool
     ensures { result ≡ begins_in r.stage r left }
 {
     matches!(r.stage, Stage::InSamples) & (r.held == 0) & (6 <= left)
-}
-
-// A step that ends this far in the part.
-fn reached(s: Step, read: usize) -> Moved
-    ensures { result ≡ record { reader = s.reader; read = read; written = s.at } }
-{
-    let reader = s.reader;
-    Moved {
-        reader,
-        read,
-        written: s.at,
-    }
 }

@@ -1,32 +1,34 @@
-// Document 01, "PHS files and the listing": the lines, each put into the bytes from `at` on where there is room for it.
-ghost use Rattle.std.specs.Prelude.{◌≡◌, ◌+◌, ◌≤◌, ◌∷◌, length, replicate};
+// Document 01, "PHS files and the listing": the lines, each put at the start of bytes that have room for any line.
+ghost use Rattle.std.specs.Prelude.{◌≡◌, ◌∷◌, replicate};
 ghost use Rattle.text.specs.declared.Word.TheVariants.{Number, Blank};
-ghost use Rattle.text.specs.Put.{Wrote};
+ghost use Rattle.text.specs.Put.{Leads};
 ghost use Rattle.refusals.specs.Refusals.{number_of};
 ghost use Rattle.phs.specs.Lines.{head_line, report_line, last_line, refused_line, line_room};
 
+use crate::feeding::Counts;
 use feed::Report;
 use header::Header;
 use refusals::Refused;
 use text::Word;
 
+// The room that any line has enough of.
+pub(crate) const LINE: usize = 256;
+
 // `PHS version nominal rate`
-pub(crate) fn put_head(h: Header, out: &mut [u8], at: usize) -> usize
-    requires { at + line_room ≤ length out.old }
-    ensures { Wrote line_room (head_line h.version h.nominal h.rate) out.old at result out.new }
+pub(crate) fn put_head(h: Header, line: &mut [u8; LINE]) -> usize
+    ensures { Leads line_room (head_line h.version h.nominal h.rate) line.old result line.new }
 {
     let words = counts(
         u64::from(h.version),
         u64::from(h.nominal),
         u64::from(h.rate),
     );
-    text::put(b"PHS % % %\n", words, out, at)
+    text::put(b"PHS % % %\n", words, line, 0)
 }
 
 // `SOC frame re im d1 d2 mark`
-pub(crate) fn put_report(r: Report, out: &mut [u8], at: usize) -> usize
-    requires { at + line_room ≤ length out.old }
-    ensures { Wrote line_room (report_line r.soc r.frame r.re r.im r.d1 r.d2 r.mark) out.old at result out.new }
+pub(crate) fn put_report(r: Report, line: &mut [u8; LINE]) -> usize
+    ensures { Leads line_room (report_line r.soc r.frame r.re r.im r.d1 r.d2 r.mark) line.old result line.new }
 {
     let words = [
         Word::Number(u64::from(r.soc)),
@@ -41,29 +43,27 @@ pub(crate) fn put_report(r: Report, out: &mut [u8], at: usize) -> usize
         Word::Blank,
         Word::Blank,
     ];
-    text::put(b"% % % % % % %\n", words, out, at)
+    text::put(b"% % % % % % %\n", words, line, 0)
 }
 
 // `reports R samples S`
-pub(crate) fn put_last(reports: u64, samples: u64, out: &mut [u8], at: usize) -> usize
-    requires { at + line_room ≤ length out.old }
-    ensures { Wrote line_room (last_line reports samples) out.old at result out.new }
+pub(crate) fn put_last(c: Counts, line: &mut [u8; LINE]) -> usize
+    ensures { Leads line_room (last_line c.reports c.samples) line.old result line.new }
 {
     text::put(
         b"reports % samples %\n",
-        counts(reports, samples, 0),
-        out,
-        at,
+        counts(c.reports, c.samples, 0),
+        line,
+        0,
     )
 }
 
 // `refused N`
-pub(crate) fn put_refused(refused: Refused, out: &mut [u8], at: usize) -> usize
-    requires { at + line_room ≤ length out.old }
-    ensures { Wrote line_room (refused_line (number_of refused)) out.old at result out.new }
+pub(crate) fn put_refused(refused: Refused, line: &mut [u8; LINE]) -> usize
+    ensures { Leads line_room (refused_line (number_of refused)) line.old result line.new }
 {
     let number = u64::from(refused.number());
-    text::put(b"refused %\n", counts(number, 0, 0), out, at)
+    text::put(b"refused %\n", counts(number, 0, 0), line, 0)
 }
 
 // Three counts. A form with fewer `%` leaves the others out.

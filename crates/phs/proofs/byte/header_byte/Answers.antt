@@ -7,4 +7,4 @@ pub returns-then-r-lt10 : goal.returns-then-r-lt10
 returns-then-r-lt10 c = header_more c.args.r c.args.bank.now c.args.b c.if-r-lt10.true c.keep.ensures
 
 pub returns : goal.returns
-returns c = header_ends c.args.r c.args.bank.now c.args.b c.if-r-lt10.false (settles _ c.begin-led.result _ c.begin-led.ensures c.settle.ensures)
+returns c = header_ends c.args.r c.args.bank.now c.args.b c.if-r-lt10.false (settles _ c.begin-ended.result _ c.begin-ended.ensures c.settle.ensures)

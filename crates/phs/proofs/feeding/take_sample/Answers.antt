@@ -5,15 +5,15 @@ use Rattle.phs.proofs.feeding.take_sample.Goals as goal
 
 pub returns-in_err-due : goal.returns-in_err-due
 returns-in_err-due c =
-    let reports_fit : c.args.t.reports < 2 ^ 64 = search rules in
-    let samples_fit : c.args.t.samples < 2 ^ 64 = search rules in
+    let reports_fit : c.args.c.reports < 2 ^ 64 = search rules in
+    let samples_fit : c.args.c.samples < 2 ^ 64 = search rules in
     let is : c.from_residual.result ≡ Err c.in_err-due.field-0.0 = search rules in
-    rw is (sample_refused c.args.t _ reports_fit samples_fit c.in_err-due.ensures, refl)
+    rw is (sample_refused c.args.c _ reports_fit samples_fit c.in_err-due.ensures, refl)
 
 pub returns-in-None : goal.returns-in-None
 returns-in-None c =
-    let reports_fit : c.args.t.reports < 2 ^ 64 = search rules in
-    sample_taken c.args.t reports_fit (rw c.in-None.is at c.in_ok-due.ensures) refl
+    let reports_fit : c.args.c.reports < 2 ^ 64 = search rules in
+    sample_taken c.args.c reports_fit (rw c.in-None.is at c.in_ok-due.ensures)
 
 pub returns-in-Some : goal.returns-in-Some
-returns-in-Some c = sample_reported c.args.t (rw c.in-Some.is at c.in_ok-due.ensures) refl refl c.put_report.ensures
+returns-in-Some c = sample_reported c.args.c (rw c.in-Some.is at c.in_ok-due.ensures) c.put_report.ensures
