@@ -171,17 +171,17 @@ impl Tables {
     }
 }
 
-// The positive sequence at the centre of the 29 samples of a window from a place on, where n is the index of the window's first sample mod 15.
-pub(crate) fn positive_sequence(window: &[i16; 93], n: usize, from: usize) -> Phasor
-    requires { (n < 15) × (from ≤ 2) }
-    ensures is { result ≡ positive (windowed (lent_samples 31 window.now) n) (n + from + 14) }
+// The positive sequence at the centre of the 29 samples of a window from a place on; the window's first sample has this index.
+pub(crate) fn positive_sequence(window: &[i16; 93], index: usize, from: usize) -> Phasor
+    requires { from ≤ 2 }
+    ensures is { result ≡ positive (windowed (lent_samples 31 window.now) index) (index + from + 14) }
     ensures small { Small result }
 {
     let tables = Tables {
         cosines: Turns::of(COS),
         sines: Turns::of(SIN),
     };
-    let sums = tables.weighted_sums(window, n, from);
+    let sums = tables.weighted_sums(window, index % 15, from);
     Phasor {
         re: sums.cosine,
         im: -sums.sine,

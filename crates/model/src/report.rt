@@ -1,7 +1,7 @@
 // Document 01, "The report": the figures at a centre, joined from the phases at it and beside it.
 ghost use Rattle.std.specs.Prelude.{◌≡◌, ◌+◌, ◌^◌, ◌≤◌, pos, ◌*ℤ◌, unsigned_abs};
 ghost use Rattle.model.specs.Report.{difference, second_difference, over, differences, joined, three_phase, phase_at, Measuring, NewestPhase, ThreePhases, MeasuringKept};
-ghost use Rattle.model.specs.Filter.{positive, windowed, lent_samples};
+ghost use Rattle.model.specs.Filter.{windowed, lent_samples};
 ghost use Rattle.model.specs.Bounds.{Small};
 
 use crate::angle::{Angle, Phase, phase_of};
@@ -127,22 +127,13 @@ fn join(p: Phasor, d: Differences, nominal: Nominal) -> Figures
     }
 }
 
-// The positive sequence at the centre of the 29 samples of a window from a place on; the window's first sample has this index.
-fn positive_from(window: &[i16; 93], index: usize, from: usize) -> Phasor
-    requires { from ≤ 2 }
-    ensures is { result ≡ positive (windowed (lent_samples 31 window.now) index) (index + from + 14) }
-    ensures small { Small result }
-{
-    positive_sequence(window, index % 15, from)
-}
-
-// The phase there.
+// The phase at the centre of the 29 samples of a window from a place on; the window's first sample has this index.
 #[tactic(auto, unfolding(crate::specs::Report::phase_at))]
 fn phase_from(window: &[i16; 93], index: usize, from: usize) -> Phase
     requires { from ≤ 2 }
     ensures { result ≡ phase_at three_phase (windowed (lent_samples 31 window.now) index) (index + from + 14) }
 {
-    phase_of(positive_from(window, index, from), THREE_PHASE.limit)
+    phase_of(positive_sequence(window, index, from), THREE_PHASE.limit)
 }
 
 // The figures at the centre of 31 lent samples, of which the first has this index; a, b and c of each stand in turn.
@@ -150,7 +141,7 @@ fn phase_from(window: &[i16; 93], index: usize, from: usize) -> Phase
 pub fn measure(window: &[i16; 93], index: usize, nominal: Nominal) -> Figures
     ensures { Measuring (lent_samples 31 window.now) index nominal result }
 {
-    let centre = positive_from(window, index, 1);
+    let centre = positive_sequence(window, index, 1);
     let phases = Phases {
         p: phase_from(window, index, 0),
         q: phase_of(centre, THREE_PHASE.limit),
@@ -182,7 +173,7 @@ pub fn measure_kept(window: &[i16; 93], index: usize, kept: Phases, nominal: Nom
     ensures { MeasuringKept (lent_samples 31 window.now) index kept nominal result }
 {
     join(
-        positive_from(window, index, 1),
+        positive_sequence(window, index, 1),
         differences_of(kept),
         nominal,
     )

@@ -1,9 +1,10 @@
--- `positive_sequence` is re and im: both sums, over two turns of the tables. Assumes nothing.
-use Rattle.std.proofs.Common.{◌∙◌, arith}
-use Rattle.model.specs.Filter.{cosines, sines, positive}
+-- `positive_sequence` is re and im: both sums, over two turns of the tables; whole turns of the index change nothing. Assumes nothing.
+use Rattle.std.proofs.Common.{refl, ◌∙◌, arith}
+use Rattle.model.specs.Filter.{cosines, sines, positive, lent_samples}
 use Rattle.model.proofs.Tables.{turned, cosines_tabled, sines_tabled}
 use Rattle.model.proofs.Same.{weighted_entries}
 use Rattle.model.proofs.Signed.{signed}
+use Rattle.model.proofs.Windows.{positive_turn}
 use Rattle.model.proofs.filter.positive_sequence.Goals as goal
 
 pub of-requires : goal.of-requires
@@ -18,4 +19,5 @@ returns-clause-is c =
     let s = c.weighted_sums-sums.ensures in
     let re-is = s.cosine ∙ weighted_entries _ cosines (turned cosines c.of.result.entries c.of.ensures) _ _ in
     let im-is = s.sine ∙ weighted_entries _ sines (turned sines c.of-2.result.entries c.of-2.ensures) _ _ in
+    let e = positive_turn (lent_samples 31 c.args.window.now) c.args.index c.args.from _ refl in
     grind (arith, signed)
