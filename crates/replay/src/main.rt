@@ -1,17 +1,20 @@
 // Runs a script of calls from standard input on the library, and prints a line for each answer.
 #![tactic(auto)]
 
+mod answer;
 mod calls;
 mod lines;
 mod script;
 
 ghost use Rattle.std.specs.Prelude.{◌+◌, ◌≤◌, length, IfOk};
 
+use answer::Answer;
 use lines::Text;
 use refusals::Refused;
 use script::{Call, Record};
-use std::io;
+use std::fmt::Write;
 use std::io::Read;
+use std::{fmt, io};
 
 // Why a script is not run to its end.
 #[derive(Drop)]
@@ -26,36 +29,45 @@ pub(crate) enum Stop {
     Endless,
 }
 
-// Makes the call of a record, and puts the line of its answer where it is not refused.
-fn run(record: Record, memory: &mut [u8], out: &mut Text) -> Result<(), Refused>
-    requires { out.old.len + 1024 ≤ 65536 }
-{
-    match record.call {
+// Makes the call of a record.
+fn call<'a>(record: Record, memory: &'a mut [u8]) -> Result<Answer<'a>, Refused> {
+    Ok(match record.call {
         Call::Clear => {
             calls::clear(record, memory)?;
-            out.done();
+            Answer::Done
         }
         Call::Open => {
             calls::open(record, memory)?;
-            out.done();
+            Answer::Done
         }
-        Call::Push => out.taken(calls::push(record, memory)?),
+        Call::Push => Answer::Taken(calls::push(record, memory)?),
         Call::Close => {
             calls::close(record, memory)?;
-            out.done();
+            Answer::Done
         }
-        Call::Mend => out.mended(calls::mend(record, memory)?),
-        Call::Set => calls::set(record, memory),
-        Call::Show => {
-            if let Some(slot) = calls::show(record, memory) {
-                out.bytes(slot);
-            }
+        Call::Mend => Answer::Mended(calls::mend(record, memory)?),
+        Call::Set => {
+            calls::set(record, memory);
+            Answer::Quiet
         }
-        Call::Measure => out.figures(calls::measure(record)?),
-        Call::Judge => out.judged(calls::judge(record)?),
-        Call::Read => out.reading(calls::read(record)?),
+        Call::Show => match calls::show(record, memory) {
+            Some(slot) => Answer::Bytes(slot),
+            None => Answer::Quiet,
+        },
+        Call::Measure => Answer::Measured(calls::measure(record)?),
+        Call::Judge => Answer::Judged(calls::judge(record)?),
+        Call::Read => Answer::Read(calls::read(record)?),
+    })
+}
+
+// Makes the call of a record, and puts its line, for which there is room.
+fn run(record: Record, memory: &mut [u8], out: &mut Text) -> fmt::Result
+    requires { out.old.len + 1024 ≤ 65536 }
+{
+    match call(record, memory) {
+        Ok(answer) => write!(out, "{answer}"),
+        Err(refused) => writeln!(out, "{refused}"),
     }
-    Ok(())
 }
 
 // Runs the whole records that a part of the script begins with, and answers how many bytes they are.
@@ -65,9 +77,8 @@ fn run_all(rt: &HostRuntime, part: &[u8], memory: &mut [u8], out: &mut Text) -> 
     let mut at = 0;
     while let Some(record) = Record::first(&part[at..])? {
         out.make_room(rt).map_err(Stop::Unwritten)?;
-        if let Err(r) = run(record, memory, out) {
-            out.refused(r);
-        }
+        // no line is longer than its room
+        let _ = run(record, memory, out);
         at += record.bytes.len();
     }
     Ok(at)
@@ -104,7 +115,7 @@ fn replay(rt: &HostRuntime, memory: &mut [u8], input: &mut [u8], out: &mut Text)
         Ok(()) => {}
         Err(Stop::BadRecord) => {
             out.flush(rt)?;
-            out.bad_record();
+            let _ = writeln!(out, "bad record");
         }
         // what can't be said is left unsaid
         Err(Stop::Unread(e)) => {
