@@ -1,6 +1,8 @@
 -- What is written is the listing of the file that the reader has left: at its end, and after a refusal, which is the last line. Assumes nothing.
-use Rattle.std.proofs.Common.{◌≡◌, refl, sym, ap, ◌∙◌, subst, List, [], ◌∷◌, ℕ, ◌<◌, ◌≤◌, ◌++◌, length, take, arith, append-nil, one-add, le-ltb, Option, None, Some, IfSome, Result, Ok, Err, MatchResult, IfOk}
+use Rattle.std.proofs.Common.{◌≡◌, refl, sym, ap, ◌∙◌, subst, List, [], ◌∷◌, ℕ, ◌<◌, ◌≤◌, ◌++◌, length, take, drop, arith, append-nil, one-add, ap₂, ◌+◌, false, le-ltb, Option, None, Some, IfSome, Result, Ok, Err, MatchResult, IfOk}
 use Rattle.std.proofs.Math.Seq.{take-length}
+use Rattle.std.proofs.lemmas.Bool.{false≢true}
+use lib.Seq.{sets, sets-eq, take-append_seam}
 use Rattle.std.proofs.Math.Nat.{sub-zero}
 use Rattle.std.specs.Io.KnownBytes.{Consumes, Appends, IsAtEnd}
 use Rattle.std.proofs.KnownBytes.{Appends-trans, Consumes-trans, Consumes-nil, Appends-nil, Consumes-whole}
@@ -9,10 +11,11 @@ use Rattle.phs.specs.declared.Stage.TheVariants.{Over}
 use Rattle.phs.specs.declared.Reader.{Reader}
 use Rattle.phs.specs.Lines.{line_room}
 use Rattle.phs.specs.Listing.{listing}
-use Rattle.phs.specs.Stream.{stream, started, after_byte, Fed, onto, fed, outcome, Reading, Finishing}
+use Rattle.phs.specs.Stream.{stream, started, after_byte, Fed, onto, fed, outcome, last, last_with, Reading, Finishing}
 use Rattle.phs.specs.Cut.{Bytes, Cut, none}
 use Rattle.phs.proofs.Whole.{every_cut}
 use Rattle.lister.specs.declared.Unlisted.{Unlisted}
+use Rattle.lister.specs.Listing.{breaks_off, told, Tells}
 use Rattle.lister.specs.Inside.{Flowed, Comes, Gives, SoFar, Ends}
 use Rattle.lister.proofs.Given.{nothing_yet, called, joined, bytes_after}
 
@@ -82,42 +85,66 @@ passes_over {q} e bank rest out h b =
 
 -- ---- the listing
 
+-- the last line stands at the buffer's start
+last_text : (q : Reader) (out : List ℕ) (n : ℕ) (out' : List ℕ) → line_room ≤ length out → Finishing q out n out' → take n out' ≡ last q
+unfolding last_with
+last_text q out n out' room f =
+    let line : List ℕ = last q in
+    let e : last_with (length out) q ≡ line = rw (le-ltb (length out) line_room room) in
+    let long : n ≡ length line = ap (λ (x : ℕ × List ℕ). x.0) f.ends ∙ ap length e in
+    let bytes : out' ≡ sets out 0 line = ap (λ (x : ℕ × List ℕ). x.1) f.ends ∙ ap (sets out 0) e in
+    ap₂ take long (bytes ∙ sets-eq line out 0 (omega (arith, f.fits))) ∙ take-append_seam line (drop (0 + length line) out)
+
+abbrev pub Told : (bank : List ℕ) (held held' : Option (List ℕ)) (bank' file : List ℕ) → Type 0
+Told bank held held' bank' file = Appends held held' (told bank file) × (bank' ≡ (stream started bank file).bank) × (length bank ≡ 4096 → Appends held held' (listing file))
+
+-- where the last line is written
+pub when_ended : {bank : List ℕ} {left held left' held' : Option (List ℕ)} {bank' : List ℕ} {r : Result (Unit {0}) Unlisted} → breaks_off r ≡ false
+    → (r ≡ Ok tt → (file : List ℕ) → Bytes file → left ≡ Some file → Told bank held held' bank' file) → Tells bank left held r bank' left' held'
+when_ended ended t = record {
+  whole = λ ok file b known. ((t ok file b known).0, (t ok file b known).1);
+  listed = λ ok e file b known. (t ok file b known).2 e;
+  so_far = λ b. absurd (false≢true (sym ended ∙ b));
+}
+
 module _ {bank : List ℕ} {left left' held mid held' : Option (List ℕ)} {q : Reader} {bank' out : List ℕ} {r : Result (Unit {0}) Unlisted} (s : SoFar bank left left' held mid q bank')
-    (room : line_room ≤ length out) (ended : Ends q out mid held' r) (ok : r ≡ Ok tt) (e : length bank ≡ 4096) where
+    (room : line_room ≤ length out) (ended : Ends q out mid held' r) (ok : r ≡ Ok tt) where
   abbrev LastLine : Result (Unit {0}) Unlisted → Type 0
   LastLine a = IfOk a (λ u. (n : ℕ) × (out' : List ℕ) × Finishing q out n out' × Appends mid held' (take n out'))
 
-  last : LastLine (Ok tt)
-  last = subst LastLine ok ended.written
+  line : LastLine (Ok tt)
+  line = subst LastLine ok ended.written
 
-  abbrev Told : List ℕ → Type 0
-  Told file = Appends held held' (listing file) × (bank' ≡ (stream started bank file).bank)
+  text_is : Appends held held' (s.text ++ take line.0 line.1)
+  text_is = Appends-trans held mid held' s.text (take line.0 line.1) s.written line.3
 
   -- of all that is read, and of what follows it and gives no text
-  told : {file : List ℕ} → Flowed started bank file s.text q bank' → Told file
-  told {file} f =
-      let cut : Cut started bank file s.text q = subst (λ (l : List ℕ). Cut started bank l s.text q) (append-nil file) (subst (λ (l : List ℕ). Cut started bank (file ++ []) l q) (append-nil s.text) (f.cut none)) in (
-        subst (λ (l : List ℕ). Appends held held' l) (every_cut.whatever_the_cut e cut out last.0 last.1 room last.2)
-            (Appends-trans held mid held' s.text (take last.0 last.1) s.written last.3),
+  tells : {file : List ℕ} → Flowed started bank file s.text q bank' → Told bank held held' bank' file
+  tells {file} f =
+      let last_is : take line.0 line.1 ≡ last (stream started bank file).reader = last_text q out line.0 line.1 room line.2 ∙ ap last (sym f.reader_is) in
+      let cut : Cut started bank file s.text q =
+      subst (λ (l : List ℕ). Cut started bank l s.text q) (append-nil file) (subst (λ (l : List ℕ). Cut started bank (file ++ []) l q) (append-nil s.text) (f.cut none)) in (
+        subst (Appends held held') (ap₂ (λ (x y : List ℕ). x ++ y) (sym f.text_is) last_is) text_is,
         sym f.bank_is,
+        λ e. subst (Appends held held') (every_cut.whatever_the_cut e cut out line.0 line.1 room line.2) text_is,
       )
 
   -- at the end of the input
-  pub told_at_end : IsAtEnd left' → (file : List ℕ) → left ≡ Some file → Told file
+  pub told_at_end : IsAtEnd left' → (file : List ℕ) → left ≡ Some file → Told bank held held' bank' file
   told_at_end at_end file known =
-      subst (λ (o : Option (List ℕ)). IfSome o Told) known (Consumes-whole left left' s.file Told s.read at_end (told s.flowed))
+      subst (λ (o : Option (List ℕ)). IfSome o (Told bank held held' bank')) known (Consumes-whole left left' s.file (Told bank held held' bank') s.read at_end (tells s.flowed))
 
   -- after a refusal
-  pub told_when_over : q.stage ≡ Over → (file : List ℕ) → Bytes file → left ≡ Some file → Told file
+  pub told_when_over : q.stage ≡ Over → (file : List ℕ) → Bytes file → left ≡ Some file → Told bank held held' bank' file
   told_when_over over_is file b known = by left' (subst (λ (o : Option (List ℕ)). Consumes o left' s.file) known s.read)
     where
-      by : (o : Option (List ℕ)) → Consumes (Some file) o s.file → Told file
+      by : (o : Option (List ℕ)) → Consumes (Some file) o s.file → Told bank held held' bank' file
       by None c = absurd c
       by (Some rest) c =
           let bytes : Bytes rest = bytes_after s.file rest (sym c) b in
           let flowed : Flowed started bank (s.file ++ rest) s.text q bank' =
           subst (λ (l : List ℕ). Flowed started bank (s.file ++ rest) l q bank') (append-nil s.text) (joined s.flowed (passes_over over_is bank' rest out room bytes)) in
-          told (subst (λ (l : List ℕ). Flowed started bank l s.text q bank') (sym c) flowed)
+          tells (subst (λ (l : List ℕ). Flowed started bank l s.text q bank') (sym c) flowed)
 
 -- ---- what a call before `?` answered
 

@@ -1,3 +1,3 @@
 -- The laws of `reads`.
-pub mod Signs
+pub mod Brings
 pub mod Unique
