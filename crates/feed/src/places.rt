@@ -19,7 +19,6 @@ pub fn sample_of(p: [u8; 6]) -> Sample
 }
 
 // A sample's six bytes: a, b, c.
-#[tactic(auto, unfolding(crate::specs::Places::place_of), using(bits::proofs::Reading::readings))]
 pub fn place_of(s: Sample) -> [u8; 6]
     ensures { result ≡ place_of s }
 {
