@@ -3,7 +3,7 @@
 
 mod slot;
 
-ghost use Rattle.std.specs.Prelude.{◌≡◌, length};
+ghost use Rattle.std.specs.Prelude.{◌≡◌};
 ghost use Rattle.salvage.specs.Image.{mended_image, told_of, Mending};
 
 use refusals::Refused;
@@ -33,15 +33,14 @@ pub struct MendedSlot {
 pub fn mend(image: &mut [u8]) -> Result<[MendedSlot; 16], Refused>
     ensures { Mending image.old result image.new }
 {
-    if image.len() != 4096 {
+    let Some(image) = image.as_mut_array() else {
         return Err(Refused::BankLength);
-    }
+    };
     Ok(mend_slots(image))
 }
 
 // The sixteen slots of an image, one after another.
-fn mend_slots(image: &mut [u8]) -> [MendedSlot; 16]
-    requires { length image.old ≡ 4096 }
+fn mend_slots(image: &mut [u8; 4096]) -> [MendedSlot; 16]
     ensures { (result ≡ told_of image.old) × (image.new ≡ mended_image image.old) }
 {
     let mut slots = [MendedSlot {

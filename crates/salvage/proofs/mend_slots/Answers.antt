@@ -1,5 +1,5 @@
 -- `salvage::mend_slots` meets its contract: a turn mends one slot more. Assumes nothing.
-use Rattle.std.proofs.Common.{◌≡◌, ap, ◌∙◌, arith}
+use Rattle.std.proofs.Common.{◌≡◌, length, ap, ◌∙◌, arith, rules}
 use Rattle.salvage.specs.Slots.{mended_slot, told}
 use Rattle.salvage.proofs.Turns.{turn, all_told, all_mended}
 use Rattle.salvage.proofs.mend_slots.Goals as goal
@@ -13,4 +13,5 @@ loop-k-preserved c =
 pub returns : goal.returns
 returns c =
     let all : c.loop-k.k ≡ 16 = omega arith in
-    (all_told all c.requires c.loop-k.invariant, all_mended all c.requires c.loop-k.invariant)
+    let whole : length c.args.image.now ≡ 4096 = search rules in
+    (all_told all whole c.loop-k.invariant, all_mended all whole c.loop-k.invariant)
