@@ -1,20 +1,15 @@
 -- One step, by the sign of im; the steps that are left, one fewer; and how large both parts grow: from step to step by a floor at most, so that
 -- they stay within 2^60. Assumes nothing.
-use Rattle.std.proofs.Common.{◌≡◌, ℕ, zero, suc, ◌+◌, ◌-◌, ◌^◌, ◌<◌, ◌≤◌, Bool, true, false, cond, not, ℤ, pos, negsuc, ◌+ℤ◌, ◌-ℤ◌, nat_abs, sym, refl, ap, ◌∙◌, subst, zero-le, le_trans, le_refl, not-suc-le-zero, add-zero, add-suc, zero-lt-suc, arith, lit≤, pow_pos, le-ltb, lt-ltb}
+use Rattle.std.proofs.Common.{◌≡◌, ℕ, zero, suc, ◌+◌, ◌-◌, ◌^◌, ◌<◌, ◌≤◌, Bool, true, false, cond, ℤ, pos, ◌+ℤ◌, ◌-ℤ◌, nat_abs, sym, ap, subst, le_trans, le_refl, not-suc-le-zero, add-zero, add-suc, arith, lit≤, pow_pos}
 use lib.Signed.{lt_z}
 use Rattle.ints.specs.Whole.{floor_div}
 use Rattle.ints.proofs.Size.{size_floor, size_add, size_minus, mag_le, div_mono}
 use Rattle.model.specs.Angle.{step, steps, above, below}
 use Rattle.model.specs.Bounds.{cap, Sized}
+use Rattle.model.proofs.Signed.{signed}
 use Rattle.model.specs.declared.angle.Turning.{Turning}
 
 -- ---- the step, by the sign of im
-
--- a number that is not 0 is above it where it is not below
-other_sign : (z : ℤ) → (z ≡ pos 0 → ⊥) → lt_z (pos 0) z ≡ not (lt_z z (pos 0))
-other_sign (pos zero) h = absurd (h refl)
-other_sign (pos (suc n)) h = lt-ltb 0 (suc n) (zero-lt-suc n) ∙ ap not (sym (le-ltb (suc n) 0 zero-le))
-other_sign (negsuc n) h = refl
 
 module _ (i : ℕ) (v : Turning) where
   -- each part by a test: the step below 0, or the one above
@@ -28,11 +23,7 @@ module _ (i : ℕ) (v : Turning) where
   -- elsewhere the sign of im chooses each part
   pub step_chosen : (v.im ≡ pos 0 → ⊥) → chosen (lt_z v.im (pos 0)) ≡ step i v
   unfolding step
-  step_chosen h = go (lt_z v.im (pos 0)) ∙ ap (λ (t : Bool). cond t (above i v) (cond (lt_z v.im (pos 0)) (below i v) v)) (sym (other_sign v.im h))
-    where
-      go : (u : Bool) → chosen u ≡ cond (not u) (above i v) (cond u (below i v) v)
-      go true = refl
-      go false = refl
+  step_chosen h = grind (arith, signed)
 
 -- ---- the steps that are left
 pub steps_none : (left : ℕ) (v : Turning) → left ≡ 0 → steps left v ≡ v
