@@ -1,9 +1,8 @@
 -- The phase by whether there is one, which the sizes of both parts decide. Assumes nothing.
-use Rattle.std.proofs.Common.{◌≡◌, ℕ, ◌<◌, Bool, true, false, cond, T, ltb, ◌↔◌, nat_abs, sym, refl, ◌∙◌, subst, ltb→lt, lt-ltb}
+use Rattle.std.proofs.Common.{arith, ◌≡◌, ℕ, ◌<◌, true, false, T, ltb, ◌↔◌, nat_abs, sym, ◌∙◌, subst, ltb→lt, lt-ltb}
 use mir.Facts.{and_yes}
 use Rattle.ints.proofs.Cases.{when_true, when_false, both_true}
 use Rattle.model.specs.Angle.{no_phase, phase_angle, phase_of, zero_turn}
-use Rattle.model.specs.declared.angle.Phase.{Phase}
 use Rattle.model.specs.declared.filter.Phasor.{Phasor}
 
 module _ (limit : ℕ) (p : Phasor) where
@@ -17,11 +16,7 @@ module _ (limit : ℕ) (p : Phasor) where
 
   pub none_is : (phase_of limit p).none ≡ no_phase limit p
   unfolding phase_of
-  none_is = pick (no_phase limit p)
-    where
-      pick : (t : Bool) → (cond {A = Phase} t (record { angle = zero_turn; none = true }) (record { angle = phase_angle p; none = false })).none ≡ t
-      pick true = refl
-      pick false = refl
+  none_is = grind arith
 
   -- there is none exactly when both sizes are below the limit
   pub none_exactly : ((phase_of limit p).none ≡ true) ↔ ((nat_abs p.re < limit) × (nat_abs p.im < limit))

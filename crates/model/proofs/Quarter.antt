@@ -1,12 +1,11 @@
 -- Turning a phasor by a quarter turn adds exactly a quarter turn to its angle, where there is a phase; and there is one before exactly where there
 -- is one after. The turn into the first quadrant takes off a quarter more, and each step hands that on. Assumes nothing.
-use Rattle.std.proofs.Common.{◌≡◌, ℕ, zero, suc, ◌+◌, ◌-◌, ◌*◌, ◌%◌, ◌^◌, ◌≤◌, Bool, true, false, cond, ◌&&◌, T, ltb, ℤ, pos, ◌*ℤ◌, neg_ℤ, nat_abs, sym, refl, ap, ◌∙◌, subst, arith, lt-ltb}
+use Rattle.std.proofs.Common.{◌≡◌, ℕ, zero, suc, ◌+◌, ◌-◌, ◌*◌, ◌%◌, ◌^◌, ◌≤◌, true, false, ◌&&◌, T, ltb, ℤ, pos, ◌*ℤ◌, neg_ℤ, nat_abs, sym, refl, ap, ◌∙◌, subst, arith, lt-ltb}
 use mathlib.Core.Bool.{and_comm}
-use lib.Signed.{lt_z}
 use Rattle.ints.proofs.Size.{size_neg, size_mul}
 use Rattle.ints.proofs.Ring.{negℤ-*ℤ}
 use Rattle.ints.proofs.Cases.{both_true}
-use Rattle.model.specs.Angle.{angle_of, quarter_turn, gains, arctan, above, below, step, steps, turned, scaled, no_phase, phase_angle, phase_of}
+use Rattle.model.specs.Angle.{angle_of, quarter_turn, gains, step, steps, turned, scaled, no_phase, phase_angle, phase_of}
 use Rattle.model.specs.declared.angle.Angle.{Angle}
 use Rattle.model.specs.declared.angle.Phase.{Phase}
 use Rattle.model.specs.declared.angle.Turning.{Turning}
@@ -32,12 +31,7 @@ gains_gains a q d = ap angle_of (parts a.parts)
 
 step_later : (i : ℕ) (v : Turning) → step i (later v) ≡ later (step i v)
 unfolding step
-step_later i v = pick (lt_z (pos 0) v.im) (lt_z v.im (pos 0))
-  where
-    pick : (t u : Bool) → cond t (above i (later v)) (cond u (below i (later v)) (later v)) ≡ later (cond t (above i v) (cond u (below i v) v))
-    pick true u = λ j. record { re = (above i v).re; im = (above i v).im; angle = gains_gains v.angle (2 ^ 30) (arctan i) j }
-    pick false true = λ j. record { re = (below i v).re; im = (below i v).im; angle = gains_gains v.angle (2 ^ 30) (2 ^ 32 - arctan i) j }
-    pick false false = refl
+step_later i v = grind (arith, gains_gains)
 
 steps_later : (n : ℕ) (v : Turning) → steps n (later v) ≡ later (steps n v)
 unfolding steps

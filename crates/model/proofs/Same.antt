@@ -15,10 +15,7 @@ later_same m n d e = omega arith
 
 -- and so does what comes to it, 15 later
 turned_same : (m n i k d : ℕ) → m + 15 ≡ i + d → n + 15 ≡ k + d → i % 15 ≡ k % 15 → m % 15 ≡ n % 15
-turned_same m n i k d p q e = turn m ∙ ap (λ (j : ℕ). j % 15) p ∙ later_same i k d e ∙ sym (turn n ∙ ap (λ (j : ℕ). j % 15) q)
-  where
-    turn : (j : ℕ) → j % 15 ≡ (j + 15) % 15
-    turn j = omega arith
+turned_same m n i k d p q e = omega arith
 
 -- one sample against three entries
 pub phase_sum_same : (table : List ℤ) (s : Sample) (m n : ℕ) → m % 15 ≡ n % 15 → phase_sum table s m ≡ phase_sum table s n
