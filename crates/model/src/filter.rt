@@ -55,7 +55,7 @@ fn weight_of(j: usize) -> usize
     requires { j < 29 }
     ensures { result ≡ weight (offset j) }
 {
-    15 - j.abs_diff(14)
+    if j < 15 { j + 1 } else { 29 - j }
 }
 
 // Two turns of a table that the sums may read: fifteen entries in turn, from any one of the first fifteen on, are then a run.
