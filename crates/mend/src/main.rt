@@ -3,7 +3,6 @@
 
 ghost use Rattle.std.specs.Prelude.{◌≤◌, ◌<◌, IfOk, length};
 
-use salvage::Fate;
 use std::io;
 use std::io::Read;
 
@@ -25,15 +24,6 @@ fn read_input(rt: &HostRuntime, room: &mut [u8]) -> io::Result<usize>
     Ok(held)
 }
 
-// What is said of a slot of which this becomes.
-fn word_of(fate: Fate) -> &'static str {
-    match fate {
-        Fate::Sound => "sound",
-        Fate::Trimmed => "trimmed",
-        Fate::Closed => "closed",
-    }
-}
-
 // Mends the image and writes it; where all of it is written, says what becomes of each slot, such as `slot 3 trimmed 12`. An error is that of
 // standard error.
 fn mend(rt: &HostRuntime, image: &mut [u8]) -> io::Result<()> {
@@ -45,7 +35,7 @@ fn mend(rt: &HostRuntime, image: &mut [u8]) -> io::Result<()> {
         return eprintln!(rt; "mend: standard output: {e}");
     }
     for (k, slot) in slots.iter().enumerate() {
-        eprintln!(rt; "slot {k} {} {}", word_of(slot.fate), slot.differing)?;
+        eprintln!(rt; "slot {k} {} {}", slot.fate, slot.differing)?;
     }
     Ok(())
 }

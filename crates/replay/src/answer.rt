@@ -2,7 +2,7 @@
 use feed::Report;
 use frames::Frame;
 use model::Figures;
-use salvage::{Fate, MendedSlot};
+use salvage::MendedSlot;
 use std::fmt;
 use std::num::f64_to_bits_with_nan;
 use verdict::Verdict;
@@ -45,7 +45,7 @@ impl fmt::Display for Answer<'_> {
             Answer::Mended(slots) => {
                 write!(f, "mended")?;
                 for slot in slots {
-                    write!(f, " {}/{}", word_of(slot.fate), slot.differing)?;
+                    write!(f, " {}/{}", slot.fate, slot.differing)?;
                 }
                 writeln!(f)
             }
@@ -77,15 +77,6 @@ impl fmt::Display for Answer<'_> {
                 )
             }
         }
-    }
-}
-
-// What is said of a slot of which this becomes.
-fn word_of(fate: Fate) -> &'static str {
-    match fate {
-        Fate::Sound => "sound",
-        Fate::Trimmed => "trimmed",
-        Fate::Closed => "closed",
     }
 }
 

@@ -1,5 +1,5 @@
 -- Document 02, CR 3 with CR 6: what becomes of a slot, and what is said of it.
-use Rattle.std.specs.Prelude.{Option, Some, None, Bool, cond, not, List, ◌++◌, ℕ, ◌+◌, ◌-◌, ◌*◌, ◌==◌, eqb, count_by, take}
+use Rattle.std.specs.Prelude.{Option, Some, None, Bool, cond, not, List, ◌++◌, ℕ, ◌+◌, ◌-◌, ◌*◌, ◌==◌, eqb, codes, count_by, take}
 use Rattle.std.specs.List.{zip}
 use Rattle.feed.specs.Places.{zeros}
 use Rattle.bank.specs.declared.damage.Damage.{Damage}
@@ -42,6 +42,12 @@ fate_by (Some Other) altered = Closed
 
 abbrev pub fate_of : List ℕ → Fate
 fate_of s = fate_by (damage_of s) (not (eqb (differing s (mended_slot s)) 0))
+
+-- the word for what becomes of a slot
+abbrev pub word_of : Fate → List ℕ
+word_of Sound = codes "sound"
+word_of Trimmed = codes "trimmed"
+word_of Closed = codes "closed"
 
 -- sound, 0
 abbrev pub unaltered : MendedSlot

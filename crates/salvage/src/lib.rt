@@ -3,11 +3,13 @@
 
 mod slot;
 
-ghost use Rattle.std.specs.Prelude.{◌≡◌};
+ghost use Rattle.std.specs.Prelude.{◌≡◌, Some};
+ghost use Rattle.salvage.specs.Slots.{word_of};
 ghost use Rattle.salvage.specs.Image.{mended_image, told_of, Mending};
 
 use refusals::Refused;
 use slot::mend_slot;
+use std::fmt;
 
 // What becomes of a slot.
 #[derive(Clone, Copy)]
@@ -18,6 +20,19 @@ pub enum Fate {
     Trimmed,
     // all of it is set to zero
     Closed,
+}
+
+// `sound`, `trimmed` or `closed`
+impl fmt::Display for Fate {
+    ghost output = { λ f. Some (word_of f) };
+
+    fn fmt<W: fmt::Write>(&self, f: &mut fmt::Formatter<W>) -> fmt::Result {
+        f.write_str(match self {
+            Fate::Sound => "sound",
+            Fate::Trimmed => "trimmed",
+            Fate::Closed => "closed",
+        })
+    }
 }
 
 // What is said of a slot.
