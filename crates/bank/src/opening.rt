@@ -7,6 +7,7 @@ use crate::damage::is_damaged;
 use crate::slot::put_head;
 use feed::Feed;
 use refusals::Refused;
+use sampling::Nominal;
 
 // A free slot takes a feed as it is opened. It is all zero, so the numbers of the feed are all that has to be put into it.
 #[tactic(auto, using(crate::proofs::Outcomes::openings, crate::proofs::Free::opened_slot))]
@@ -24,9 +25,7 @@ pub(crate) fn open_slot(
     if slot[0] == 1 {
         return Err(Refused::AlreadyOpen);
     }
-    if !sampling::served_nominal(nominal) {
-        return Err(Refused::Nominal);
-    }
+    Nominal::try_from(nominal)?;
     if !(sampling::served_rate(nominal, rate) | (rate == 0)) {
         return Err(Refused::Rate);
     }

@@ -51,6 +51,7 @@ pub struct Report {
     pub im: i64,
     pub d1: i32,
     pub d2: i32,
+    // the no-phase mark, 1 or 0: a number, since a report prints it
     pub mark: u8,
     // re and im in peak counts
     pub re_peak: f64,
@@ -144,7 +145,7 @@ impl Head {
         ensures { result ≡ faulty self }
     {
         self.is_unserved()
-            | !(self.index < self.sampling())
+            | (self.index >= self.sampling())
             | (self.held > 31)
             | (self.place > 30)
             | self.is_uneven()
@@ -251,7 +252,8 @@ impl SoundHead {
         self.is_multiple(centre.index).then_some(centre)
     }
 
-    // The phase at the newest centre that comes with the next sample, which stands 14 behind it; zero while fewer than 29 are then held.
+    // The phase at the newest centre that comes with the next sample, which stands 14 behind it; zero while fewer than 29 are then held. The first
+    // of the thirty-one then held stands 30 before the next, at the same index mod 15.
     fn newest(self, window: &[i16; 93]) -> Phase
         ensures { result ≡ newest_with self.head (lent_samples 31 window.now) }
     {
@@ -281,6 +283,7 @@ impl SoundHead {
         ensures { said (Ok result) ≡ cond (due_with self.head) (report_with self.head (lent_samples 31 window.now) kept) taken }
     {
         let centre = self.due()?;
+        // below the rate, so eight bits hold it
         let frame = (centre.index / self.spacing()) as u8;
         let figures = measure_kept(
             window,

@@ -6,6 +6,7 @@ ghost use Rattle.header.specs.Header.{Heading, meant_rate};
 
 use bits::{be16, be32};
 use refusals::Refused;
+use sampling::Nominal;
 
 // What a header says: the version, and what it opens a feed with, the rate being the one kept.
 #[derive(Clone, Copy)]
@@ -32,9 +33,7 @@ pub fn read_header(h: &[u8]) -> Result<Header, Refused>
         return Err(Refused::Version);
     }
     let nominal = h[5];
-    if !sampling::served_nominal(nominal) {
-        return Err(Refused::Nominal);
-    }
+    Nominal::try_from(nominal)?;
     let rate = h[6];
     if !(sampling::served_rate(nominal, rate) | (rate == 0)) {
         return Err(Refused::Rate);

@@ -27,7 +27,7 @@ pub enum Unlisted {
 }
 
 // Reads the file from the reader, a part at a time to its end or to its refusal, and writes the listing to the writer. A whole header clears
-// the bank and opens slot 0, which stays open; of a bank that is not 4096 bytes the listing is `refused 1`.
+// the bank and opens slot 0, which stays open; of a bank that is not 4096 bytes the listing is `refused 1`, after the header's own refusals.
 pub fn list<R: Read, W: Write>(
     bank: &mut [u8],
     input: &mut [u8],

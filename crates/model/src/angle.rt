@@ -43,7 +43,7 @@ impl Angle {
     }
 }
 
-// The angle at a centre, or none: then the angle is 0.
+// The angle at a centre, or none, where the model answers 0 beside it. They stand apart, since a slot keeps both (CR 6).
 #[derive(Clone, Copy)]
 pub struct Phase {
     pub angle: Angle,

@@ -16,6 +16,7 @@ pub struct Figures {
     pub im: i64,
     pub d1: i32,
     pub d2: i32,
+    // the no-phase mark, 1 or 0: a number, since a report prints it
     pub mark: u8,
     // re and im in peak counts
     pub re_peak: f64,

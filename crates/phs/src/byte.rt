@@ -20,8 +20,7 @@ pub(crate) struct Step {
 pub(crate) fn take_byte(r: Reader, b: u8, bank: &mut [u8], line: &mut [u8; LINE]) -> Step
     ensures { Steps (after_byte r bank.old b) line.old result bank.new line.new }
 {
-    let stage = r.stage;
-    match stage {
+    match r.stage {
         Stage::InHeader => header_byte(r, b, bank, line),
         Stage::InSamples => sample_byte(r, b, bank, line),
         Stage::Over => Step {

@@ -73,6 +73,7 @@ pub fn read_part(r: Reader, bank: &mut [u8], part: &[u8], out: &mut [u8]) -> Mov
     let mut reader = r;
     let mut i = 0;
     let mut at = 0;
+    // how far to go on, in the part and in the text, is what each step answers
     while (i < part.len()) & (LINE <= out.len() - at) {
         let m = advance(reader, bank, &part[i..], &mut out[at..]);
         reader = m.reader;
@@ -102,8 +103,7 @@ pub fn finish(r: Reader, out: &mut [u8]) -> usize
 fn put_end(r: Reader, line: &mut [u8; LINE]) -> usize
     ensures { Leads line_room (last r) line.old result line.new }
 {
-    let stage = r.stage;
-    match stage {
+    match r.stage {
         Stage::InHeader => line::put_refused(Refused::HeaderCut, line),
         Stage::InSamples => {
             if r.held == 0 {

@@ -1,4 +1,4 @@
--- Document 01, "Refusal numbers", with CR 4: refusals are data, and their order is a list.
+-- Document 01, "Refusal numbers", with CR 2 and CR 4: refusals are data, and their order is a list.
 use Rattle.std.specs.Prelude.{Bool, cond, List, [], ◌∷◌, ◌++◌, ℕ, codes, Result, Ok, Err}
 use Rattle.std.specs.Fmt.{decimal}
 use Rattle.refusals.specs.declared.Refused.{Refused}

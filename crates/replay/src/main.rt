@@ -32,19 +32,10 @@ pub(crate) enum Stop {
 // Makes the call of a record.
 fn call<'a>(record: Record, memory: &'a mut [u8]) -> Result<Answer<'a>, Refused> {
     Ok(match record.call {
-        Call::Clear => {
-            calls::clear(record, memory)?;
-            Answer::Done
-        }
-        Call::Open => {
-            calls::open(record, memory)?;
-            Answer::Done
-        }
+        Call::Clear => calls::clear(record, memory).map(|()| Answer::Done)?,
+        Call::Open => calls::open(record, memory).map(|()| Answer::Done)?,
         Call::Push => Answer::Taken(calls::push(record, memory)?),
-        Call::Close => {
-            calls::close(record, memory)?;
-            Answer::Done
-        }
+        Call::Close => calls::close(record, memory).map(|()| Answer::Done)?,
         Call::Mend => Answer::Mended(calls::mend(record, memory)?),
         Call::Set => {
             calls::set(record, memory);

@@ -47,7 +47,7 @@ pub(crate) struct Record<'a> {
 }
 
 impl<'a> Record<'a> {
-    // The record that a script begins with; none where it is cut short.
+    // The record that a script begins with; none where it is cut short, and an error where its first byte is unknown.
     pub(crate) fn first(script: &'a [u8]) -> Result<Option<Record<'a>>, Stop>
         ensures { IfOk result (λ o. IfSome o (λ r. (0 < length r.bytes.now) × (length r.bytes.now ≤ length script.now))) }
     {
@@ -55,11 +55,11 @@ impl<'a> Record<'a> {
             return Ok(None);
         };
         let call = Call::try_from(*letter)?;
-        let and_more = Record {
+        let to_the_end = Record {
             call,
             bytes: script,
         };
-        let Some(bytes) = script.get(..and_more.length()) else {
+        let Some(bytes) = script.get(..to_the_end.length()) else {
             return Ok(None);
         };
         Ok(Some(Record { call, bytes }))

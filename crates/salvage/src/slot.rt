@@ -46,6 +46,7 @@ fn left_by(damage: Option<Damage>, slot: [u8; 256]) -> [u8; 256]
 fn count(before: &[u8; 256], after: &[u8; 256]) -> u16
     ensures { result ≡ differing before.now after.now }
 {
+    // at most 256
     before.iter().zip(after).filter(|(b, a)| b != a).count() as u16
 }
 

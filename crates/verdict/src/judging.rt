@@ -44,6 +44,7 @@ fn left_out(test: u8, m: i32) -> bool
 }
 
 // The judging of one device report: refusals 10, 11, 9, then "left out", with no verdicts (`None`), then the three verdicts.
+// Class and test are numbers, since 10 and 11 are for those that name none.
 #[tactic(auto, unfolding(crate::specs::Judging::judgement))]
 pub fn judge(
     class: u8,
