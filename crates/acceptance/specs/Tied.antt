@@ -1,6 +1,6 @@
 -- Every public function of every library, by its own contract: it asks nothing, it says the relation that the conditions and the promises
--- speak of, and it admits one outcome. The exceptions are `lister::list` and the printing of a refusal, whose readers and writers are of any type:
--- what they say stands in lister's proofs/Says and in proofs/Printing.
+-- speak of, and it admits one outcome. The exceptions are `lister::list` and the printing of a refusal and of what becomes of a slot, whose readers
+-- and writers are of any type: what they say stands in lister's proofs/Says and in proofs/Printing.
 -- `Pre κs a` is what the function's `requires` asks of the arguments a; `Post κs a r s` is what its `ensures` says of them, of the answer r
 -- and of the arguments when it ends, s. κs are the lifetimes; a.0, a.1.0, a.1.1.0 are the arguments in their order; `a.0.now` are
 -- lent bytes or numbers before the call, `s.0.now` when it ends.
