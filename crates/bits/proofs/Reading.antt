@@ -2,19 +2,13 @@
 use Rattle.std.proofs.Common.{◌≡◌, ℕ, ◌^◌, ◌<◌, List, ℤ, pos, negsuc, slice_index, refl, arith}
 use Rattle.std.specs.Int.{w16, w32, to_be_bytes, from_be_bytes, cast_signed, cast_unsigned}
 use Rattle.std.proofs.lemmas.Int.{ints}
-use Rattle.bits.specs.Bits.{be16, be32, bytes16, bytes32, signed_in, signed16, signed32, bits16}
+use Rattle.bits.specs.Bits.{be16, bytes16, signed_in, signed16, signed32, bits16}
 
 pub to_be_bytes_16 : (n : ℕ) → n < 2 ^ 16 → to_be_bytes w16 n ≡ bytes16 n
 to_be_bytes_16 n h = grind arith
 
-pub to_be_bytes_32 : (n : ℕ) → n < 2 ^ 32 → to_be_bytes w32 n ≡ bytes32 n
-to_be_bytes_32 n h = grind arith
-
 pub from_be_bytes_16 : (l : List ℕ) → from_be_bytes w16 l ≡ be16 (slice_index l 0) (slice_index l 1)
 from_be_bytes_16 l = omega arith
-
-pub from_be_bytes_32 : (l : List ℕ) → from_be_bytes w32 l ≡ be32 (slice_index l 0) (slice_index l 1) (slice_index l 2) (slice_index l 3)
-from_be_bytes_32 l = omega arith
 
 -- `cast_unsigned`
 pub cast_unsigned_16 : (z : ℤ) → cast_unsigned w16 z ≡ bits16 z
@@ -30,6 +24,3 @@ reads_16 n h = grind (arith, ints)
 pub reads_32 : (n : ℕ) → n < 2 ^ 32 → cast_signed w32 n ≡ signed32 n
 unfolding signed_in
 reads_32 n h = grind (arith, ints)
-
--- all of them, for an attribute's `using`
-pub ruleset readings = (to_be_bytes_16, to_be_bytes_32, from_be_bytes_16, from_be_bytes_32, cast_unsigned_16, reads_16, reads_32)

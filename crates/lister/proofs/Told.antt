@@ -1,8 +1,7 @@
 -- What is written is the listing of the file that the reader has left: at its end, and after a refusal, which is the last line. Assumes nothing.
-use Rattle.std.proofs.Common.{◌≡◌, refl, sym, ap, ◌∙◌, subst, List, [], ◌∷◌, ℕ, ◌<◌, ◌≤◌, ◌++◌, length, take, drop, arith, append-nil, one-add, ap₂, ◌+◌, false, le-ltb, Option, None, Some, IfSome, Result, Ok, Err, MatchResult, IfOk}
+use Rattle.std.proofs.Common.{◌≡◌, refl, sym, ap, ◌∙◌, subst, List, [], ◌∷◌, ℕ, ◌<◌, ◌≤◌, ◌++◌, length, take, arith, append-nil, one-add, ap₂, ◌+◌, false, le-ltb, Option, None, Some, IfSome, Result, Ok, Err, MatchResult, IfOk}
 use Rattle.std.proofs.Math.Seq.{take-length}
 use Rattle.std.proofs.lemmas.Bool.{false≢true}
-use lib.Seq.{sets, sets-eq, take-append_seam}
 use Rattle.std.proofs.Math.Nat.{sub-zero}
 use Rattle.std.specs.Io.KnownBytes.{Consumes, Appends, IsAtEnd}
 use Rattle.std.proofs.KnownBytes.{Appends-trans, Consumes-trans, Consumes-nil, Appends-nil, Consumes-whole}
@@ -11,9 +10,9 @@ use Rattle.phs.specs.declared.Stage.TheVariants.{Over}
 use Rattle.phs.specs.declared.Reader.{Reader}
 use Rattle.phs.specs.Lines.{line_room}
 use Rattle.phs.specs.Listing.{listing}
-use Rattle.phs.specs.Stream.{stream, started, after_byte, Fed, onto, fed, outcome, last, last_with, Reading, Finishing}
+use Rattle.phs.specs.Stream.{stream, started, after_byte, Fed, onto, fed, outcome, last, Reading, Finishing}
 use Rattle.phs.specs.Cut.{Bytes, Cut, none}
-use Rattle.phs.proofs.Whole.{every_cut}
+use Rattle.phs.proofs.Whole.{last_text, every_cut}
 use Rattle.lister.specs.declared.Unlisted.{Unlisted}
 use Rattle.lister.specs.Listing.{breaks_off, told, Tells}
 use Rattle.lister.specs.Inside.{Flowed, Comes, Gives, SoFar, Ends}
@@ -84,16 +83,6 @@ passes_over {q} e bank rest out h b =
     (subst (λ (l : List ℕ). Flowed (over q.held q.samples q.reports q.kept) bank l [] (over q.held q.samples q.reports q.kept) bank) (take-length rest) flows)
 
 -- ---- the listing
-
--- the last line stands at the buffer's start
-last_text : (q : Reader) (out : List ℕ) (n : ℕ) (out' : List ℕ) → line_room ≤ length out → Finishing q out n out' → take n out' ≡ last q
-unfolding last_with
-last_text q out n out' room f =
-    let line : List ℕ = last q in
-    let e : last_with (length out) q ≡ line = rw (le-ltb (length out) line_room room) in
-    let long : n ≡ length line = ap (λ (x : ℕ × List ℕ). x.0) f.ends ∙ ap length e in
-    let bytes : out' ≡ sets out 0 line = ap (λ (x : ℕ × List ℕ). x.1) f.ends ∙ ap (sets out 0) e in
-    ap₂ take long (bytes ∙ sets-eq line out 0 (omega (arith, f.fits))) ∙ take-append_seam line (drop (0 + length line) out)
 
 abbrev pub Told : (bank : List ℕ) (held held' : Option (List ℕ)) (bank' file : List ℕ) → Type 0
 Told bank held held' bank' file = Appends held held' (told bank file) × (bank' ≡ (stream started bank file).bank) × (length bank ≡ 4096 → Appends held held' (listing file))

@@ -1,7 +1,6 @@
 -- A window's numbers as samples, and its samples under their indices: they are those of its places, whatever the index of the first, so that whole
 -- turns of the index change nothing. Assumes nothing.
-use Rattle.std.proofs.Common.{◌≡◌, ℕ, zero, suc, ◌+◌, ◌-◌, ◌*◌, ◌%◌, ◌<◌, List, length, get_or, drop, set, ℤ, pos, ◌*ℤ◌, sym, refl, ap, ◌∙◌, arith, length-set, get_or-drop}
-use Rattle.std.proofs.lemmas.Grind.{elements}
+use Rattle.std.proofs.Common.{◌≡◌, ℕ, zero, suc, ◌+◌, ◌-◌, ◌*◌, ◌%◌, ◌<◌, List, length, get_or, drop, ℤ, pos, ◌*ℤ◌, sym, refl, ap, ◌∙◌, arith, get_or-drop}
 use Rattle.model.specs.Filter.{weight, offset, phase_sum, term, positive, windowed, no_sample, lent_samples}
 use Rattle.model.specs.Report.{joined, differences, figures_with}
 use Rattle.model.specs.declared.filter.Phasor.{Phasor}
@@ -34,25 +33,6 @@ pub samples_length : (n : ℕ) (w : List ℤ) → length (lent_samples n w) ≡ 
 unfolding lent_samples
 samples_length zero w = refl
 samples_length (suc n) w = ap suc (samples_length n (drop 3 w))
-
--- ---- three numbers put one after the other
-module _ (w : List ℤ) (at : ℕ) (x y z : ℤ) where
-  abbrev pub three_put : List ℤ
-  three_put = set (set (set w at x) (at + 1) y) (at + 2) z
-
-  pub three_length : length three_put ≡ length w
-  three_length = simp length-set
-
-  -- a number before them is as it was
-  pub three_before : (k : ℕ) → k < at → get_or three_put k (pos 0) ≡ get_or w k (pos 0)
-  three_before k h = grind (arith, elements)
-
-  pub three_kept : (k : ℕ) → k + 2 < at → three_at three_put k ≡ three_at w k
-  three_kept k h = λ i. record { a = three_before k (omega arith) i; b = three_before (k + 1) (omega arith) i; c = three_before (k + 2) h i }
-
-  -- they are read where they are put
-  pub three_there : at + 2 < length w → three_at three_put at ≡ record { a = x; b = y; c = z }
-  three_there h = grind (arith, elements)
 
 -- ---- the samples under their indices
 

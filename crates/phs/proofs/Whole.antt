@@ -163,7 +163,8 @@ file_listed (x ∷ x₁ ∷ x₂ ∷ x₃ ∷ x₄ ∷ x₅ ∷ x₆ ∷ x₇ �
 
 -- ---- every cut
 
-last_text : (q : Reader) (out : List ℕ) (n : ℕ) (out' : List ℕ) → line_room ≤ length out → Finishing q out n out' → take n out' ≡ last q
+-- the last line stands at the buffer's start
+pub last_text : (q : Reader) (out : List ℕ) (n : ℕ) (out' : List ℕ) → line_room ≤ length out → Finishing q out n out' → take n out' ≡ last q
 unfolding last_with
 last_text q out n out' room f =
     let t : List ℕ = last q in

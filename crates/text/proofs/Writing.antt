@@ -42,10 +42,6 @@ put_leads room at r text before mid h w =
     ∙ rw (sets-eq text before at (omega (arith, w.ends, w.short)), append_assoc, w.ends) refl in
     record { outcome = rw (h, bytes, w.ends) refl; short = omega (arith, w.short) }
 
--- a text may have more room than it takes
-pub wider : {m n at r : ℕ} {text before after : List ℕ} → m ≤ n → Wrote m text before at r after → Wrote n text before at r after
-wider h w = record { ends = w.ends; bytes = w.bytes; short = omega (arith, w.short) }
-
 -- a text of no bytes
 pub nothing : {m at : ℕ} {before : List ℕ} → Wrote m [] before at at before
 nothing = record { ends = omega arith; bytes = refl; short = omega arith }
