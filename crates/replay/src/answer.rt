@@ -1,10 +1,13 @@
 // What the calls answer, and the lines that say it.
+use crate::lines::Text;
 use feed::Report;
 use frames::Frame;
 use model::Figures;
 use salvage::MendedSlot;
 use std::fmt;
+use std::fmt::Write;
 use std::num::f64_to_bits_with_nan;
+use text::Word;
 use verdict::Verdict;
 
 // The answer of a record's call that is not refused.
@@ -28,62 +31,89 @@ pub(crate) enum Answer<'a> {
     Read(Frame),
 }
 
-impl fmt::Display for Answer<'_> {
-    fn fmt<W: fmt::Write>(&self, f: &mut fmt::Formatter<W>) -> fmt::Result {
+impl Answer<'_> {
+    // Puts its line, for which there is room.
+    pub(crate) fn put(self, out: &mut Text) -> fmt::Result {
         match self {
-            Answer::Quiet => Ok(()),
-            Answer::Done => writeln!(f, "done"),
-            Answer::Taken(None) => writeln!(f, "taken"),
-            Answer::Taken(Some(r)) => {
-                write!(
-                    f,
-                    "report {} {} {} {} {} {} {}",
-                    r.soc, r.frame, r.re, r.im, r.d1, r.d2, r.mark
-                )?;
-                write_bits(f, [r.re_peak, r.im_peak, r.deviation, r.rocof])
-            }
+            Answer::Quiet => {}
+            Answer::Done => out.put(b"done\n", &[]),
+            Answer::Taken(None) => out.put(b"taken\n", &[]),
+            Answer::Taken(Some(r)) => out.put(
+                b"report % % % % % % % % % % %\n",
+                &[
+                    Word::Number(u64::from(r.soc)),
+                    Word::Number(u64::from(r.frame)),
+                    Word::Whole(r.re),
+                    Word::Whole(r.im),
+                    whole(r.d1),
+                    whole(r.d2),
+                    Word::Number(u64::from(r.mark)),
+                    bits(r.re_peak),
+                    bits(r.im_peak),
+                    bits(r.deviation),
+                    bits(r.rocof),
+                ],
+            ),
             Answer::Mended(slots) => {
-                write!(f, "mended")?;
+                out.put(b"mended", &[]);
                 for slot in slots {
-                    write!(f, " {}/{}", slot.fate, slot.differing)?;
+                    write!(out, " {}", slot.fate)?;
+                    out.put(b"/%", &[Word::Number(u64::from(slot.differing))]);
                 }
-                writeln!(f)
+                out.put(b"\n", &[]);
             }
             Answer::Bytes(bytes) => {
-                write!(f, "bytes ")?;
-                for byte in *bytes {
-                    write!(f, "{byte:02x}")?;
-                }
-                writeln!(f)
+                out.put(b"bytes ", &[]);
+                out.put_hex(bytes);
+                out.put(b"\n", &[]);
             }
-            Answer::Measured(g) => {
-                write!(f, "figures {} {} {} {} {}", g.re, g.im, g.d1, g.d2, g.mark)?;
-                write_bits(f, [g.re_peak, g.im_peak, g.deviation, g.rocof])
-            }
-            Answer::Judged(None) => writeln!(f, "left out"),
-            Answer::Judged(Some(v)) => writeln!(
-                f,
-                "verdict {} {} {}",
-                u8::from(v.tve),
-                u8::from(v.fe),
-                u8::from(v.rfe)
+            Answer::Measured(g) => out.put(
+                b"figures % % % % % % % % %\n",
+                &[
+                    Word::Whole(g.re),
+                    Word::Whole(g.im),
+                    whole(g.d1),
+                    whole(g.d2),
+                    Word::Number(u64::from(g.mark)),
+                    bits(g.re_peak),
+                    bits(g.im_peak),
+                    bits(g.deviation),
+                    bits(g.rocof),
+                ],
+            ),
+            Answer::Judged(None) => out.put(b"left out\n", &[]),
+            Answer::Judged(Some(v)) => out.put(
+                b"verdict % % %\n",
+                &[
+                    Word::Number(u64::from(v.tve)),
+                    Word::Number(u64::from(v.fe)),
+                    Word::Number(u64::from(v.rfe)),
+                ],
             ),
             Answer::Read(r) => {
                 let d = r.device;
-                writeln!(
-                    f,
-                    "reading {} {} {} {} {}",
-                    d.re, d.im, d.deviation, d.rocof, r.quality
-                )
+                out.put(
+                    b"reading % % % % %\n",
+                    &[
+                        whole(i32::from(d.re)),
+                        whole(i32::from(d.im)),
+                        whole(i32::from(d.deviation)),
+                        whole(i32::from(d.rocof)),
+                        Word::Number(u64::from(r.quality)),
+                    ],
+                );
             }
         }
+        Ok(())
     }
 }
 
-// The bits of the floats that a line ends with. They are quotients of whole numbers, so none is a NaN.
-fn write_bits<W: fmt::Write>(f: &mut fmt::Formatter<W>, floats: [f64; 4]) -> fmt::Result {
-    for x in floats {
-        write!(f, " {:016x}", f64_to_bits_with_nan(x))?;
-    }
-    writeln!(f)
+// A whole number of at most 32 bits.
+fn whole(z: i32) -> Word {
+    Word::Whole(i64::from(z))
+}
+
+// The bits of a float. A line's floats are quotients of whole numbers, so none is a NaN.
+fn bits(x: f64) -> Word {
+    Word::Bits(f64_to_bits_with_nan(x))
 }

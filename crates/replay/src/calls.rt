@@ -1,4 +1,6 @@
 // Each kind of record as a call of the library. The numbers given to the readers are the places of a record's arguments.
+ghost use Rattle.std.specs.Prelude.{◌≤◌, length};
+
 use crate::script::Record;
 use feed::Report;
 use frames::{Configured, Frame, Tag};
@@ -8,7 +10,9 @@ use salvage::MendedSlot;
 use verdict::{Device, Reference, Verdict};
 
 // The bytes of the memory that a bank call is lent: the first `len`, or all where there are fewer.
-fn lent<'a>(record: Record, memory: &'a mut [u8]) -> &'a mut [u8] {
+fn lent<'a>(record: Record, memory: &'a mut [u8]) -> &'a mut [u8]
+    ensures { length result.now ≤ length memory.old }
+{
     let len = usize::from(record.u16_at(1)).min(memory.len());
     &mut memory[..len]
 }

@@ -2,6 +2,7 @@
 ghost use Rattle.std.specs.Prelude.{◌≡◌, ◌+◌, ◌≤◌, length, OnOk};
 
 use std::{fmt, io};
+use text::Word;
 
 // Room for any line, the 1024 of the contracts.
 const LINE: usize = 1024;
@@ -39,6 +40,22 @@ impl Text {
             self.flush(rt)?;
         }
         Ok(())
+    }
+
+    // Puts a form with a word for each `%`, up to eleven, where there is room.
+    #[tactic(auto, using(text::proofs::Writing::put_within))]
+    pub(crate) fn put(&mut self, form: &[u8], words: &[Word]) {
+        let mut all = [Word::Blank; 11];
+        for (word, given) in all.iter_mut().zip(words) {
+            *word = *given;
+        }
+        self.len = text::put(form, all, &mut self.bytes, self.len);
+    }
+
+    // Puts two hexadecimal digits for each byte, where there is room.
+    #[tactic(auto, using(text::proofs::Writing::put_within))]
+    pub(crate) fn put_hex(&mut self, bytes: &[u8]) {
+        self.len = text::put_hex(bytes, &mut self.bytes, self.len);
     }
 }
 

@@ -56,7 +56,7 @@ fn run(record: Record, memory: &mut [u8], out: &mut Text) -> fmt::Result
     requires { out.old.len + 1024 ≤ 65536 }
 {
     match call(record, memory) {
-        Ok(answer) => write!(out, "{answer}"),
+        Ok(answer) => answer.put(out),
         Err(refused) => writeln!(out, "{refused}"),
     }
 }
