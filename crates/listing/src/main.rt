@@ -2,6 +2,7 @@
 #![tactic(auto)]
 
 use lister::Unlisted;
+use std::io::ErrorKind;
 
 // The program. Where the listing has no last line, standard error says why, with the system's reason. Where that can't be said either, nothing is.
 fn main(rt: HostRuntime) {
@@ -16,6 +17,10 @@ fn main(rt: HostRuntime) {
     };
     let _ = match why {
         Unlisted::Unread(e) => eprintln!(rt; "listing: standard input: {e}"),
+        // a write that takes no byte has no reason of the system's
+        Unlisted::Unwritten(e) if matches!(e.kind(), ErrorKind::WriteZero) => {
+            eprintln!(rt; "listing: standard output")
+        }
         Unlisted::Unwritten(e) => eprintln!(rt; "listing: standard output: {e}"),
         // not reached: there is room
         Unlisted::NoRoom => eprintln!(rt; "listing: no room"),

@@ -3,8 +3,9 @@
 
 ghost use Rattle.std.specs.Prelude.{◌≤◌, ◌<◌, IfOk, length};
 
-use std::io;
+use salvage::MendedSlot;
 use std::io::Read;
+use std::{fmt, io};
 
 // How many bytes an image has.
 const IMAGE: usize = 4096;
@@ -24,8 +25,22 @@ fn read_input(rt: &HostRuntime, room: &mut [u8]) -> io::Result<usize>
     Ok(held)
 }
 
-// Mends the image and writes it; where all of it is written, says what becomes of each slot, such as `slot 3 trimmed 12`. An error is that of
-// standard error.
+// What becomes of each slot, a line each.
+#[derive(Drop)]
+struct Lines([MendedSlot; 16]);
+
+// Lines such as `slot 3 trimmed 12`
+impl fmt::Display for Lines {
+    fn fmt<W: fmt::Write>(&self, f: &mut fmt::Formatter<W>) -> fmt::Result {
+        for (k, slot) in self.0.iter().enumerate() {
+            writeln!(f, "slot {k} {} {}", slot.fate, slot.differing)?;
+        }
+        Ok(())
+    }
+}
+
+// Mends the image and writes it; where all of it is written, says what becomes of each slot, all of it in one
+// write. An error is that of standard error.
 fn mend(rt: &HostRuntime, image: &mut [u8]) -> io::Result<()> {
     let slots = match salvage::mend(image) {
         Ok(slots) => slots,
@@ -34,10 +49,7 @@ fn mend(rt: &HostRuntime, image: &mut [u8]) -> io::Result<()> {
     if let Err(e) = rt.stdout().write_all(image) {
         return eprintln!(rt; "mend: standard output: {e}");
     }
-    for (k, slot) in slots.iter().enumerate() {
-        eprintln!(rt; "slot {k} {} {}", slot.fate, slot.differing)?;
-    }
-    Ok(())
+    eprint!(rt; "{}", Lines(slots))
 }
 
 // The program. There is more room than an image takes, so that a longer input is seen to be longer. What can't be said is left unsaid.
