@@ -33,14 +33,21 @@ pub(crate) fn is_stray(s: &[u8; 256]) -> bool
 }
 
 // How the 256 bytes of a slot are damaged, if they are.
-#[tactic(auto, using(crate::proofs::States::damage_by_state))]
 pub fn damage_of(slot: [u8; 256]) -> Option<Damage>
     ensures { result ≡ damage_of slot }
 {
-    match slot[0] {
-        0 if is_blank(&slot) => None,
-        1 if read_head(&slot).is_faulty() => Some(Damage::Other),
-        1 => is_stray(&slot).then_some(Damage::Stray),
+    damage_in(&slot)
+}
+
+// The same of a slot where it stands, so that no byte is copied.
+#[tactic(auto, using(crate::proofs::States::damage_by_state))]
+fn damage_in(s: &[u8; 256]) -> Option<Damage>
+    ensures { result ≡ damage_of s.now }
+{
+    match s[0] {
+        0 if is_blank(s) => None,
+        1 if read_head(s).is_faulty() => Some(Damage::Other),
+        1 => is_stray(s).then_some(Damage::Stray),
         _ => Some(Damage::Other),
     }
 }
@@ -50,5 +57,5 @@ pub fn damage_of(slot: [u8; 256]) -> Option<Damage>
 pub(crate) fn is_damaged(s: &[u8; 256]) -> bool
     ensures { result ≡ is_damaged s.now }
 {
-    damage_of(*s).is_some()
+    damage_in(s).is_some()
 }
