@@ -31,6 +31,7 @@ not_found {bank} {slot} e rest f = go (not (eqb (length bank) 4096)) (ltb 15 slo
 
 -- found: these bytes of the bank are the slot, and others in their place are the slot's
 pub record Standing (bank : List ℕ) (slot start : ℕ) : Type 0 where
+  pub begins : start ≡ 256 * slot
   pub there : StandsIn bank slot (slot_at bank slot)
   pub bytes : take 256 (drop start bank) ≡ slot_at bank slot
   pub back : (s : List ℕ) → take start bank ++ (s ++ drop 256 (drop start bank)) ≡ with_slot bank slot s
@@ -46,6 +47,7 @@ stands {bank} {slot} {start} f = go (not (eqb (length bank) 4096)) (ltb 15 slot)
     go false false p q e =
         let n : start ≡ 256 * slot = cc in
         record {
+          begins = n;
           there = record { whole = eqb-true _ _ (not-false _ p); named = ltb-false 15 slot q; there = refl };
           bytes = rw n;
           back = λ s. rw (n, drop-drop 256 (256 * slot) bank);

@@ -5,15 +5,17 @@ use mathlib.Core.Bool.{Bool, true, false, cond, ◌||◌}
 use mathlib.Core.List.{List}
 use Prim.Native.Nat.{ℕ, ◌≤◌}
 use lib.Dec.{eqb, ltb}
+use lib.ListN.{length}
 use Rattle.model.specs.declared.filter.Sample.{Sample}
 use Rattle.model.specs.declared.report.Phases.{Phases}
 use Rattle.feed.specs.declared.Feed.{Feed}
 use Rattle.std.specs.Prelude.{Ok, Option, Some, None}
 use Rattle.feed.specs.declared.Report.{Report}
+use Rattle.feed.specs.declared.Pushed.{Pushed}
 use Rattle.feed.specs.Answers.{Said, refused, done, taken, taken_with, said, tagged}
 use Rattle.feed.specs.History.{History, centre_of, is_due}
 use Rattle.feed.specs.Kept.{report_from, answered_from}
-use Rattle.feed.specs.Ring.{faulty, end_of_time_of, stored, history_of, Next, pushed}
+use Rattle.feed.specs.Ring.{faulty, end_of_time_of, stored, history_of, Next, pushed, Pushing as FeedPushing}
 use Rattle.bank.specs.Slot.{state_in, head_in, feed_in, slot_of, with_slot}
 use Rattle.bank.specs.Damage.{is_free, stray, is_damaged}
 use Rattle.bank.specs.Calls.{Outcome, pushed_at}
@@ -22,7 +24,7 @@ use Rattle.bank.proofs.Lent.{pass, stop, inside, seen, size, unaltered}
 use Rattle.bank.proofs.States.{or_so, or_not, open_damaged, stray_or_over}
 use Rattle.bank.proofs.Outcomes.{push_damaged}
 use Rattle.feed.proofs.Sound.{neither}
-use borrow.Author.Tests.{ltb-false}
+use borrow.Author.Tests.{le-ltb, ltb-false}
 use Rattle.bank.proofs.Stray.{clean_tail}
 use Rattle.bank.proofs.Written.{stored_slot}
 
@@ -102,3 +104,10 @@ module _ {bank : List ℕ} {slot : ℕ} {s : List ℕ} (l : StandsIn bank slot s
     push_through = sym same
 
   pub ruleset open_pushes = (push_stray, push_through)
+
+module _ {bank : List ℕ} {slot : ℕ} {s : List ℕ} (l : StandsIn bank slot s) (size : length s ≡ 256) (one : state_in s ≡ 1) (clean : stray s ≡ false) (within : (head_in s).place ≤ 30) (v : Sample) where
+  -- the feed passes through a push as one value, and what it changes goes back: that is the bank's push
+  pub through : {f : Feed} (r : Pushed) → f ≡ feed_in s → FeedPushing f v r → ended bank slot s v (record { answer = said r.answer; feed = r.feed }) ≡ pushed_at bank slot v
+  through r e p =
+      ap (ended bank slot s v) (p ∙ ap (λ (f : Feed). pushed f v) e)
+      ∙ sym (push_through l v one (or_not _ clean ∙ le-ltb 30 (head_in s).place within))

@@ -40,7 +40,7 @@ module _ (f : Feed) (s : Sample) where
     taken_so = ap (λ (x : Said). record { answer = x; feed = stored f s }) (sym stored_answer) ∙ sym (pushed_on f s e d)
 
     -- the phases that are kept then: those before it moved on, and the newest of the samples then held
-    kept_then : (window : List Sample) → window ≡ ring_of (placed f s) → moved_on f.kept (newest_with f.head window) ≡ (stored f s).kept
+    pub kept_then : (window : List Sample) → window ≡ ring_of (placed f s) → moved_on f.kept (newest_with f.head window) ≡ (stored f s).kept
     unfolding stored
     kept_then window w =
         ap (moved_on f.kept) (ap (newest_with f.head) w ∙ sym (newest_over f s (sound f.head e) (sound (next_head f.head) (push_sound f.head e))))

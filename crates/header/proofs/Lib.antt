@@ -1,3 +1,4 @@
 -- The laws of `header`.
 pub mod Unique
+pub mod Order
 pub mod Meant

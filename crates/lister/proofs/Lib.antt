@@ -3,3 +3,4 @@ pub mod Says
 pub mod Unique
 pub mod Told
 pub mod Given
+pub mod Counted

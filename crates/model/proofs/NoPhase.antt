@@ -1,9 +1,20 @@
--- The phase by whether there is one, which the sizes of both parts decide. Assumes nothing.
-use Rattle.std.proofs.Common.{arith, ◌≡◌, ℕ, ◌<◌, true, false, T, ltb, ◌↔◌, nat_abs, sym, ◌∙◌, subst, ltb→lt, lt-ltb}
+-- Two tests, against a limit and its negative, are one of the size; and the phase by whether there is one, which the sizes of both parts decide.
+-- Assumes nothing.
+use Rattle.std.proofs.Common.{arith, ◌≡◌, ℕ, zero, suc, ◌<◌, Bool, true, false, ◌&&◌, T, ltb, ◌↔◌, ℤ, pos, negsuc, neg_ℤ, nat_abs, sym, refl, ap, ◌∙◌, subst, ltb→lt, lt-ltb}
+use mathlib.Core.Bool.{and-true, and-false}
+use lib.Dec.{leb-suc-suc, leb-suc-zero}
 use mir.Facts.{and_yes}
+use lib.Signed.{lt_z}
 use Rattle.ints.proofs.Cases.{when_true, when_false, both_true}
 use Rattle.model.specs.Angle.{no_phase, phase_angle, phase_of, zero_turn}
 use Rattle.model.specs.declared.filter.Phasor.{Phasor}
+
+-- -n < z and z < n
+pub between : (n : ℕ) (z : ℤ) → (lt_z (neg_ℤ (pos n)) z && lt_z z (pos n)) ≡ ltb (nat_abs z) n
+between zero (pos a) = ap (λ (t : Bool). ltb 0 a && t) (leb-suc-zero a) ∙ and-false (ltb 0 a) ∙ sym (leb-suc-zero a)
+between zero (negsuc a) = sym (leb-suc-zero (suc a))
+between (suc n) (pos a) = refl
+between (suc n) (negsuc a) = and-true (ltb a n) ∙ sym (leb-suc-suc (suc a) n)
 
 module _ (limit : ℕ) (p : Phasor) where
   pub phase_none : no_phase limit p ≡ true → phase_of limit p ≡ record { angle = zero_turn; none = true }

@@ -1,6 +1,6 @@
 -- A weighted sum in the making, over any table: one term more of the first j is the first j + 1, and does not overflow, since it is at most
 -- 1610612736 for each unit of weight. Assumes nothing.
-use Rattle.std.proofs.Common.{◌≡◌, ℕ, ◌+◌, ◌*◌, ◌%◌, ◌<◌, ◌≤◌, List, get_or, ℤ, pos, ◌+ℤ◌, ◌*ℤ◌, nat_abs, sym, refl, ap, ◌∙◌, ap₂, arith, lit≤, w64, SFits}
+use Rattle.std.proofs.Common.{◌≡◌, ℕ, ◌+◌, ◌*◌, ◌%◌, ◌<◌, ◌≤◌, List, get_or, ℤ, pos, ◌+ℤ◌, ◌*ℤ◌, nat_abs, sym, refl, ap, ◌∙◌, subst, ap₂, arith, lit≤, w64, SFits, to_z, of_z, to_z-of_z}
 use Rattle.ints.specs.Whole.{sum}
 use Rattle.ints.proofs.Size.{size_add, size_fits}
 use Rattle.model.specs.Bounds.{weights, FirstTerms}
@@ -27,8 +27,8 @@ module _ (table : List ℤ) (window : List Sample) (n from : ℕ) where
     term_is =
         x_is ∙ ap (λ (y : ℤ). pos (weight (offset j)) *ℤ y) (phase_sum_same table (get_or window (from + j) no_sample) m (n + from + j) e) ∙ sym (term_at table window n from j)
 
-    pub one_more : FirstTerms table window n from (j + 1) (z +ℤ x)
-    one_more = record {
+    pub one_term_more : FirstTerms table window n from (j + 1) (z +ℤ x)
+    one_term_more = record {
       is = ap₂ (λ (a b : ℤ). a +ℤ b) t.is term_is ∙ sym (sum_more f j);
       small = omega (arith, size_add z x, t.small, x_small, weights_more j);
     }
@@ -36,6 +36,33 @@ module _ (table : List ℤ) (window : List Sample) (n from : ℕ) where
   -- no sum of up to 29 terms overflows
   pub terms_fit : (j : ℕ) (z : ℤ) → j ≤ 29 → FirstTerms table window n from j z → SFits w64 z
   terms_fit j z h t = size_fits z t.small (omega (arith, weights_within j))
+
+  -- one term more, x, as the machine adds it to a local: it does not overflow, and the sum is then one term longer
+  pub record More (bits j : ℕ) (x : ℤ) : Type 0 where
+    pub fits : SFits w64 (to_z w64 bits +ℤ to_z w64 (of_z w64 x))
+    pub longer : FirstTerms table window n from (j + 1) (to_z w64 (of_z w64 (to_z w64 bits +ℤ to_z w64 (of_z w64 x))))
+
+  -- it is where x is the term of the sample at place from + j, which meets entry m
+  module _ (bits j m : ℕ) (x : ℤ) (t : FirstTerms table window n from j (to_z w64 bits)) (inside : j < 29)
+      (e : m % 15 ≡ (n + from + j) % 15) (x_is : x ≡ pos (weight (offset j)) *ℤ phase_sum table (get_or window (from + j) no_sample) m)
+      (x_small : nat_abs x ≤ weight (offset j) * 1610612736) where
+    abbrev z : ℤ
+    z = to_z w64 bits
+
+    grown : FirstTerms table window n from (j + 1) (z +ℤ x)
+    grown = one_term_more j m z x t inside e x_is x_small
+
+    whole : SFits w64 (z +ℤ x)
+    whole = terms_fit (j + 1) (z +ℤ x) (omega arith) grown
+
+    added : z +ℤ to_z w64 (of_z w64 x) ≡ z +ℤ x
+    added = ap (λ (y : ℤ). z +ℤ y) (to_z-of_z {w = w64} {z = x} (size_fits x x_small (omega (arith, weights_more j, weights_within (j + 1)))))
+
+    pub one_more : More bits j x
+    one_more = record {
+      fits = subst (SFits w64) (sym added) whole;
+      longer = subst (FirstTerms table window n from (j + 1)) (sym (ap (λ (y : ℤ). to_z w64 (of_z w64 y)) added ∙ to_z-of_z {w = w64} {z = z +ℤ x} whole)) grown;
+    }
 
   -- all 29
   module _ (z : ℤ) (t : FirstTerms table window n from 29 z) where

@@ -19,6 +19,17 @@ use Rattle.phs.specs.Inside.{Steps, begins_in, Place, whole_from, Onward}
 use Rattle.phs.proofs.Counts.{clash}
 use Rattle.phs.proofs.Room.{onto_onto, Takes, takes_byte, takes_sample, six_first, no_room, none_left}
 
+pub onward_self : (part : List ℕ) (p : Place) → p.read ≤ length part → p.written ≤ length p.out → Onward part p p
+onward_self part p l m = record {
+  same = refl;
+  long = refl;
+  further = le_refl p.read;
+  within = l;
+  grown = le_refl p.written;
+  fits = m;
+  beyond = refl;
+}
+
 pub onward_then : {part : List ℕ} {p q s : Place} → Onward part p q → Onward part q s → Onward part p s
 onward_then {part} {p} {q} {s} a b =
     let d : ℕ = s.written - q.written in

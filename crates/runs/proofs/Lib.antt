@@ -1,4 +1,5 @@
 -- The laws of `runs`.
+pub mod Centres
 pub mod Windows
 pub mod Feeds
 pub mod Unique

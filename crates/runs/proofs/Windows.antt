@@ -17,11 +17,11 @@ use Rattle.model.proofs.Windows as lent
 use Rattle.std.proofs.lemmas.List.FromFn.{length-map-range_with_len, get_or-map-range_with_len}
 use Rattle.runs.specs.Inside.{samples_from}
 
-samples_length : (x : ℕ → Sample) (first n : ℕ) → length (samples_from x first n) ≡ n
+pub samples_length : (x : ℕ → Sample) (first n : ℕ) → length (samples_from x first n) ≡ n
 unfolding samples_from
 samples_length x first n = length-map-range_with_len x first n
 
-sample_in : (x : ℕ → Sample) (first n j : ℕ) → j < n → get_or (samples_from x first n) j no_sample ≡ x (first + j)
+pub sample_in : (x : ℕ → Sample) (first n j : ℕ) → j < n → get_or (samples_from x first n) j no_sample ≡ x (first + j)
 unfolding samples_from
 sample_in x first n j h = get_or-map-range_with_len x first n j (first + j) no_sample h refl
 

@@ -7,7 +7,7 @@ use lib.Seq.{take-append-le, take-take, get_or-take}
 use Rattle.feed.specs.Places.{zeros}
 use Rattle.feed.specs.Ring.{faulty, next_number_of, history_of}
 use Rattle.feed.proofs.Sound.{sound}
-use Rattle.bank.specs.Slot.{state_in, head_in, places_in, tail_in, feed_in, worked_out_in}
+use Rattle.bank.specs.Slot.{state_in, head_in, places_in, tail_in, feed_in, free_slot, worked_out_in}
 use Rattle.bank.specs.Damage.{is_damaged, only_stray}
 use Rattle.bank.proofs.Blank.{zeros_blank, zeros_length, zeros_front, zeros_rest}
 use Rattle.bank.proofs.Slots.{drop_take}
@@ -17,6 +17,11 @@ use Rattle.bank.proofs.States.{only_stray_lem}
 use Rattle.bank.proofs.Angles.{worked_sound}
 use Rattle.salvage.specs.Slots.{filled_to, trimmed}
 use Rattle.salvage.proofs.Fates.{stray_held}
+
+-- bytes copied over a free slot stand before zeros
+pub over_free : (l f : List ℕ) (n : ℕ) → n ≤ 256 → f ≡ free_slot → l ++ drop n f ≡ l ++ zeros (256 - n)
+unfolding free_slot
+over_free l f n h e = rw (e, zeros_rest n (256 - n) 256 (omega arith))
 
 -- zeros put over all that stands from byte n on
 pub zeroed_from : (s f : List ℕ) (m n : ℕ) → m ≡ n → n ≤ 256 → length s ≡ 256 → f ≡ replicate (length (take (256 - m) (drop m s))) 0

@@ -1,10 +1,10 @@
 -- Slots mended one after another: those before the k-th are mended and told of, the others are as they were. Assumes nothing.
-use mathlib.Core.Path.{◌≡◌, ◌∙◌, ap}
+use mathlib.Core.Path.{◌≡◌, refl, ◌∙◌, ap}
 use mathlib.Core.List.{List}
 use Prim.Native.Nat.{ℕ, ◌+◌, ◌-◌, ◌*◌, ◌≤◌, ◌<◌}
 use native.Mathlib.Nat.{ne_of_lt}
 use native.Mathlib.Omega.{arith}
-use borrow.Author.Count.{below_more}
+use borrow.Author.Count.{below_none, below_more}
 use borrow.Rule.Slice.PartMut.{put_mid}
 use lib.ListN.{length, get_or, set, take, drop, length-set}
 use lib.Seq.{get_or-set_same, get_or-set_other}
@@ -22,6 +22,15 @@ pub record MendedTo (k : ℕ) (before image : List ℕ) (slots : List MendedSlot
   pub said : (j : ℕ) → j < k → get_or slots j unaltered ≡ told (slot_at before j)
   pub done : (j : ℕ) → j < k → slot_at image j ≡ mended_slot (slot_at before j)
   pub others : (j : ℕ) → k ≤ j → slot_at image j ≡ slot_at before j
+
+pub no_turn : (image : List ℕ) (slots : List MendedSlot) → length image ≡ 4096 → length slots ≡ 16 → MendedTo 0 image image slots
+no_turn image slots whole sixteen = record {
+  whole = whole;
+  sixteen = sixteen;
+  said = below_none _;
+  done = below_none _;
+  others = λ j h. refl;
+}
 
 module _ {k : ℕ} {before image : List ℕ} {slots : List MendedSlot} (named : k ≤ 15) (m : MendedTo k before image slots) where
   abbrev lent : List ℕ

@@ -57,7 +57,7 @@ unfolding decimal
 decimal_long n h = up_to_long n n h ∙ ap (λ (t : List ℕ). t ++ (glyph (n % 10) ∷ [])) (enough n (suc (n / 10)) (n / 10) (omega arith) (omega arith))
 
 -- a number of k + 1 digits
-decimal_digits : (k n : ℕ) → n < 10 * 10 ^ k → (0 < k → 10 ^ k ≤ n) → decimal n ≡ digits 10 (suc k) n
+pub decimal_digits : (k n : ℕ) → n < 10 * 10 ^ k → (0 < k → 10 ^ k ≤ n) → decimal n ≡ digits 10 (suc k) n
 unfolding digits
 decimal_digits zero n h l = decimal_short n (omega arith)
 decimal_digits (suc k) n h l =

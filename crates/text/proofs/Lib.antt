@@ -1,4 +1,5 @@
 -- The laws of `text`.
+pub mod Sets
 pub mod Digits
 pub mod Signs
 pub mod Writing

@@ -1,6 +1,6 @@
 -- Text put where there is room, at the start of bytes (`Leads`) or from a place on (`Wrote`), and what a public call, `Put`, gives its callers.
 -- By the laws of `take`, `drop` and `sets`. Assumes nothing.
-use Rattle.std.proofs.Common.{ℕ, ◌+◌, ◌-◌, ◌≤◌, ◌<◌, ◌≡◌, refl, ap, ◌∙◌, Bool, true, false, cond, List, [], ◌∷◌, ◌++◌, length, take, drop, append_assoc, length-drop, arith}
+use Rattle.std.proofs.Common.{ℕ, ◌+◌, ◌-◌, ◌≤◌, ◌<◌, ◌≡◌, refl, ap, ◌∙◌, Bool, true, false, cond, List, [], ◌∷◌, ◌++◌, length, take, drop, append_assoc, length-drop, le_trans, arith}
 use Rattle.std.proofs.Math.ListN.{set}
 use Rattle.std.proofs.lemmas.List.{append-nil, length-set, drop-drop, drop-set-lt, drop_all, take_more_set, take_rest}
 use Rattle.std.proofs.lemmas.List.Edits.{sets, sets-eq}
@@ -41,6 +41,10 @@ put_leads room at r text before mid h w =
     put_from at room r text before mid (omega arith) w
     ∙ rw (sets-eq text before at (omega (arith, w.ends, w.short)), append_assoc, w.ends) refl in
     record { outcome = rw (h, bytes, w.ends) refl; short = omega (arith, w.short) }
+
+-- a text may have more room than it takes
+pub wider : {m n at r : ℕ} {text before after : List ℕ} → m ≤ n → Wrote m text before at r after → Wrote n text before at r after
+wider h w = record { ends = w.ends; bytes = w.bytes; short = le_trans w.short h }
 
 -- a text of no bytes
 pub nothing : {m at : ℕ} {before : List ℕ} → Wrote m [] before at at before

@@ -1,2 +1,3 @@
 -- The laws of `verdict`.
+mod Bounds
 pub mod Unique

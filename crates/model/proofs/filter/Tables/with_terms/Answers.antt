@@ -3,7 +3,7 @@ use Rattle.std.proofs.Common.{◌≡◌, ℕ, ◌+◌, ◌*◌, ◌%◌, ◌<◌
 use Rattle.model.specs.Filter.{weight, offset, phase_sum, no_sample}
 use Rattle.model.specs.Bounds.{FirstTerms}
 use Rattle.model.specs.declared.filter.Sample.{Sample}
-use Rattle.model.proofs.Summing.{one_more, terms_fit}
+use Rattle.model.proofs.Summing.{one_term_more, terms_fit}
 use Rattle.model.proofs.filter.Tables.with_terms.Goals as goal
 
 -- a run of entries and the one ten on of each
@@ -24,7 +24,7 @@ module _ (table : List ℤ) (window : List Sample) (n from first i : ℕ) (z x :
 
   more : FirstTerms table window n from (first + i + 1) added
   more =
-      rw (to_z-of_z f) (one_more table window n from (first + i) ((n + from) % 15 + i) z x t inside (meets (n + from) first i whole)
+      rw (to_z-of_z f) (one_term_more table window n from (first + i) ((n + from) % 15 + i) z x t inside (meets (n + from) first i whole)
       (e ∙ ap (λ (v : Sample). pos (weight (offset (first + i))) *ℤ phase_sum table v ((n + from) % 15 + i)) read) small)
 
   added_fits : SFits w64 added

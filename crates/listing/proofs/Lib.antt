@@ -1,0 +1,2 @@
+-- What `list` asks of this program: nothing.
+pub mod Asks
