@@ -39,8 +39,7 @@ impl fmt::Display for Lines {
     }
 }
 
-// Mends the image and writes it; where all of it is written, says what becomes of each slot, all of it in one
-// write. An error is that of standard error.
+// Mends the image and writes it; where all of it is written, says in one write what becomes of each slot. An error is that of standard error.
 fn mend(rt: &HostRuntime, image: &mut [u8]) -> io::Result<()> {
     let slots = match salvage::mend(image) {
         Ok(slots) => slots,

@@ -1,4 +1,4 @@
--- Products of the comparison stay within 64 bits at the extremes of every type: bounds on squares. Assumes nothing.
+-- How large the errors of a device report can be at the extremes of every type: bounds on squares. Assumes nothing.
 use Prim.Native.Nat.{ℕ, ◌+◌, ◌*◌, ◌≤◌}
 use native.Mathlib.Nat.{add-le-add, mul-le-mul, le_trans}
 use native.Mathlib.Omega.{arith}
