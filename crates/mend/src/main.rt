@@ -25,11 +25,10 @@ fn read_input(rt: &HostRuntime, room: &mut [u8]) -> io::Result<usize>
     Ok(held)
 }
 
-// What becomes of each slot, a line each.
+// What becomes of each slot, in lines such as `slot 3 trimmed 12`.
 #[derive(Drop)]
 struct Lines([MendedSlot; 16]);
 
-// Lines such as `slot 3 trimmed 12`
 impl fmt::Display for Lines {
     fn fmt<W: fmt::Write>(&self, f: &mut fmt::Formatter<W>) -> fmt::Result {
         for (k, slot) in self.0.iter().enumerate() {

@@ -1,5 +1,5 @@
 -- How many bytes differ. Assumes nothing.
-use Rattle.std.proofs.Common.{◌≡◌, ℕ, ◌+◌, ◌%◌, ◌^◌, ◌<◌, ◌≤◌, Bool, true, false, cond, not, List, [], ◌∷◌, eqb, length, refl, ◌∙◌, sym, ap, ap₂, subst, arith, eq-eqb, eqb-true}
+use Rattle.std.proofs.Common.{◌≡◌, ℕ, ◌+◌, ◌%◌, ◌^◌, ◌<◌, ◌≤◌, Bool, true, false, cond, not, List, [], ◌∷◌, eqb, length, refl, ◌∙◌, sym, ap, ap₂, arith, eq-eqb, eqb-true}
 use Rattle.std.specs.Prelude.{fold}
 use Rattle.std.specs.List.{zip}
 use Rattle.std.proofs.lemmas.List.Sums.{count_by-le-length, sum_by-cons}
@@ -32,22 +32,20 @@ pub differing_most : (before after : List ℕ) → differing before after ≤ le
 unfolding differing
 differing_most before after = omega (arith, count_by-le-length (λ (b, a). not (eqb b a)) (zip before after), length-zip before after)
 
--- counted on from a number that leaves room for it, in 16 bits
-pub counted_on : (before after : List ℕ) (n : ℕ) → n + length before < 2 ^ 16
-    → fold (λ (m : ℕ) (p : ℕ × ℕ). (m + cond {A = ℕ} (not (eqb p.0 p.1)) 1 0) % 2 ^ 16) n (zip before after) ≡ n + differing before after
+-- one pair counted on, in 16 bits
+abbrev pub count_on : ℕ → ℕ × ℕ → ℕ
+count_on n (b, a) = (n + cond (not (eqb b a)) 1 0) % 2 ^ 16
+
+-- counted on from a number that leaves room for it
+pub counted_on : (before after : List ℕ) (n : ℕ) → n + length before < 2 ^ 16 → fold count_on n (zip before after) ≡ n + differing before after
 counted_on [] after n room = unfold differing in omega arith
 counted_on (b ∷ before) [] n room = unfold differing in omega arith
 counted_on (b ∷ before) (a ∷ after) n room =
-    go (not (eqb b a)) (λ m r. counted_on before after m r) ∙ ap (λ (k : ℕ). n + k) (sym (differing-cons b a before after))
+    let d : ℕ = cond (not (eqb b a)) 1 0 in
+    let most : d ≤ 1 = at_most_one (not (eqb b a)) in
+    let fits : (n + d) % 2 ^ 16 ≡ n + d = omega arith in
+    ap (λ (m : ℕ). fold count_on m (zip before after)) fits ∙ counted_on before after (n + d) (omega arith) ∙ omega (arith, differing-cons b a before after)
   where
-    Counted : ℕ → ℕ → Type 0
-    Counted m k = fold (λ (m : ℕ) (p : ℕ × ℕ). (m + cond {A = ℕ} (not (eqb p.0 p.1)) 1 0) % 2 ^ 16) m (zip before after) ≡ k
-
-    on : (d : ℕ) → d ≤ 1 → ((m : ℕ) → m + length before < 2 ^ 16 → Counted m (m + differing before after)) → Counted ((n + d) % 2 ^ 16) (n + (d + differing before after))
-    on d most rest =
-        let fits : (n + d) % 2 ^ 16 ≡ n + d = omega arith in
-        subst (λ (m : ℕ). Counted m (n + (d + differing before after))) (sym fits) (rest (n + d) (omega arith) ∙ omega arith)
-
-    go : (t : Bool) → ((m : ℕ) → m + length before < 2 ^ 16 → Counted m (m + differing before after)) → Counted ((n + cond {A = ℕ} t 1 0) % 2 ^ 16) (n + (cond {A = ℕ} t 1 0 + differing before after))
-    go true rest = on 1 (omega arith) rest
-    go false rest = on 0 (omega arith) rest
+    at_most_one : (t : Bool) → cond {A = ℕ} t 1 0 ≤ 1
+    at_most_one true = omega arith
+    at_most_one false = omega arith
